@@ -16,4 +16,8 @@ pub use lists::perform;
 pub use lists::rehearse;
 pub use movement::Movement;
 pub use movement::RefusedAt;
+pub use movement::RefusedAtDebug;
+pub use movement::RefusedAtPartialEq;
 pub use refusal::BookRefusal;
+pub use refusal::BookRefusalDebug;
+pub use refusal::BookRefusalPartialEq;
