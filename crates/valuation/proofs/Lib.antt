@@ -1,0 +1,5 @@
+pub mod Bests
+pub mod Bounds
+pub mod Faults
+pub mod Limits
+pub mod Quantities
