@@ -1,0 +1,5 @@
+pub mod Interest
+pub mod Scales
+pub mod Telescope
+pub mod Walks
+pub mod Scattered
