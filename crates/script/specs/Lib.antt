@@ -1,0 +1,6 @@
+pub mod Lines
+pub mod Words
+pub mod Readers
+pub mod Numbers
+pub mod Verbs
+pub mod Commands
