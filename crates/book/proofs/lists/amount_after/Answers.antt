@@ -7,7 +7,7 @@ use Rattle.book.proofs.lists.amount_after.Goals as goal
 
 pub loop-i-init : goal.loop-i-init
 unfolding run
-loop-i-init g c = c.amount-at-amount.ensures
+loop-i-init g c = c.amount_at-amount.ensures
 
 pub shift-amount-requires : goal.shift-amount-requires
 shift-amount-requires g c =

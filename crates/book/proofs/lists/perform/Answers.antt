@@ -11,7 +11,7 @@ returns g c =
     let m = g.B.Book.meaning c.args.book.now in
     let vs = c.args.moves.now in
     let n = g.B.Book.meaning c.loop-i.book in
-    let ok : Ok tt ≡ rehearsed m vs = c.in-ok-rehearse.ensures in
+    let ok : Ok tt ≡ rehearsed m vs = c.in_ok-rehearse.ensures in
     let is : n ≡ run m vs = sym (run_all n vs c.loop-i.i (omega arith)) ∙ c.loop-i.invariant.0 in
     record {
       answer = ok;

@@ -4,15 +4,15 @@ use Rattle.std.proofs.lemmas.Bool.{eqb-true, eqb-false}
 use Rattle.memory.proofs.Halves.{place_absent, sought_start, sought_found, sought_none, key_read}
 use Rattle.memory.proofs.finding.find.Goals as goal
 
-pub returns-then-is-empty : goal.returns-then-is-empty
-returns-then-is-empty g c =
+pub returns-then-is_empty : goal.returns-then-is_empty
+returns-then-is_empty g c =
     let long = length-map c.args.rows.now g.K.Keyed.key in
-    let none = eqb-true _ _ (sym c.if-is-empty.ensures) in
+    let none = eqb-true _ _ (sym c.if-is_empty.ensures) in
     record { found = tt; place = λ up. sym (place_absent _ _ (λ j l at. omega arith)) }
 
 pub loop-span-init : goal.loop-span-init
 loop-span-init g c =
-    let none = eqb-false _ _ (sym c.if-is-empty.ensures) in
+    let none = eqb-false _ _ (sym c.if-is_empty.ensures) in
     sought_start _ _ _ (length-map c.args.rows.now g.K.Keyed.key) (omega arith)
 
 pub returns-then-key-number : goal.returns-then-key-number

@@ -6,7 +6,7 @@ use Rattle.memory.proofs.finding.find_used.Goals as goal
 pub returns : goal.returns
 returns g c =
     let rows = c.args.rows.now in
-    let is : c.split-at.result.0.now ≡ take c.args.used rows = c.split-at.ensures.front ∙ ap (λ k. take k rows) c.min-count.ensures ∙ take_min rows c.args.used in
+    let is : c.split_at.result.0.now ≡ take c.args.used rows = c.split_at.ensures.front ∙ ap (λ k. take k rows) c.min-count.ensures ∙ take_min rows c.args.used in
     record {
       found = found_used rows g.K.Keyed.key _ c.args.used c.args.number c.find.result is c.find.ensures.found;
       place = λ up.

@@ -2,12 +2,12 @@ use Rattle.std.proofs.Common.{◌≡◌, length, drop, sym, ap, ◌∙◌, arith
 use Rattle.script.proofs.Words.{skipped_more, skipped_here, skipped_all}
 use Rattle.script.proofs.reading.skip_blanks.Goals as goal
 
-pub returns-then-not-is-blank : goal.returns-then-not-is-blank
-returns-then-not-is-blank c =
-    record { left = sym (skipped_here c.args.line.now c.loop-i.i (omega arith) (sym c.is-blank.ensures ∙ c.if-not-is-blank.true)) ∙ c.loop-i.invariant; within = omega arith }
+pub returns-then-not-is_blank : goal.returns-then-not-is_blank
+returns-then-not-is_blank c =
+    record { left = sym (skipped_here c.args.line.now c.loop-i.i (omega arith) (sym c.is_blank.ensures ∙ c.if-not-is_blank.true)) ∙ c.loop-i.invariant; within = omega arith }
 
 pub loop-i-preserved : goal.loop-i-preserved
-loop-i-preserved c = sym (skipped_more c.args.line.now c.loop-i.i (omega arith) (sym c.is-blank.ensures ∙ c.if-not-is-blank.false)) ∙ c.loop-i.invariant
+loop-i-preserved c = sym (skipped_more c.args.line.now c.loop-i.i (omega arith) (sym c.is_blank.ensures ∙ c.if-not-is_blank.false)) ∙ c.loop-i.invariant
 
 pub returns : goal.returns
 returns c =

@@ -3,9 +3,9 @@ use Rattle.std.proofs.lemmas.Bool.Decides.{nat_tests}
 use Rattle.sharing.proofs.Walks.{total_more, total_all}
 use Rattle.sharing.proofs.apportioning.sum_of.Goals as goal
 
-pub returns-in-default : goal.returns-in-default
-returns-in-default c =
-    let over = c.in-default.ensures in
+pub returns-in_default : goal.returns-in_default
+returns-in_default c =
+    let over = c.in_default.ensures in
     let more = total_more c.args.values.now c.loop-value.value-index (omega arith) in
     grind (arith, nat_tests)
 

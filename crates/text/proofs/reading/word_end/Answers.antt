@@ -2,13 +2,13 @@ use Rattle.std.proofs.Common.{◌≡◌, ◌-◌, length, take, drop, sym, ap, �
 use Rattle.text.proofs.Words.{read_more, read_here, read_all}
 use Rattle.text.proofs.reading.word_end.Goals as goal
 
-pub returns-then-ends-word : goal.returns-then-ends-word
-returns-then-ends-word c =
-    let r = read_here c.args.line.now c.args.from c.loop-i.i (omega arith) c.loop-i.invariant (omega arith) (sym c.ends-word.ensures ∙ c.if-ends-word.true) in
+pub returns-then-ends_word : goal.returns-then-ends_word
+returns-then-ends_word c =
+    let r = read_here c.args.line.now c.args.from c.loop-i.i (omega arith) c.loop-i.invariant (omega arith) (sym c.ends_word.ensures ∙ c.if-ends_word.true) in
     record { word = r.0; left = r.1; within = (omega arith, omega arith) }
 
 pub loop-i-preserved : goal.loop-i-preserved
-loop-i-preserved c = read_more c.args.line.now c.args.from c.loop-i.i (omega arith) c.loop-i.invariant (omega arith) (sym c.ends-word.ensures ∙ c.if-ends-word.false)
+loop-i-preserved c = read_more c.args.line.now c.args.from c.loop-i.i (omega arith) c.loop-i.invariant (omega arith) (sym c.ends_word.ensures ∙ c.if-ends_word.false)
 
 pub returns : goal.returns
 returns c =

@@ -4,9 +4,9 @@ use Rattle.books.specs.Rows.{free_row, any, held, distinct}
 use Rattle.books.proofs.Held.{layered_none}
 use Rattle.books.proofs.holdback.Holdback.with_rows.Goals as goal
 
-pub invariant-of-result : goal.invariant-of-result
+pub invariant_of-result : goal.invariant_of-result
 unfolding any distinct
-invariant-of-result g c = (ap distinct c.requires, tt)
+invariant_of-result g c = record { apart = ap distinct c.requires }
 
 pub returns : goal.returns
 unfolding held

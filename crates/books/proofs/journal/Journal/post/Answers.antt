@@ -8,8 +8,8 @@ use Rattle.books.specs.Journals.{journal_fit, journal_meaning}
 use Rattle.books.proofs.Posted.{journalled_moved, new_sound, sound_more}
 use Rattle.books.proofs.journal.Journal.post.Goals as goal
 
-pub invariant-of-self : goal.invariant-of-self
-invariant-of-self c =
+pub invariant_of-self : goal.invariant_of-self
+invariant_of-self c =
     let j = c.args.self.now in
     let v = c.args.movement in
     let ps = j.postings.now in
@@ -19,7 +19,7 @@ invariant-of-self c =
     let room : j.used + 1 ≤ length (set ps j.used p) = simp length-set (omega arith) in
     let lawful = journalled_lawful j.accounts j.resources n j.used j.opening.now ps (journal_fit j) j.room j.sound in
     let sound = new_sound j.accounts j.resources n j.opening.now (take j.used ps) v c.requires.accepted c.args.sender c.args.receiver lawful c.requires.sender c.requires.receiver in
-    (j.sizes, (j.whole, (j.low, (room, (sound_more j.accounts j.resources ps j.used p (omega arith) j.sound sound, tt)))))
+    record { sizes = j.sizes; whole = j.whole; low = j.low; room = room; sound = sound_more j.accounts j.resources ps j.used p (omega arith) j.sound sound }
 
 pub returns : goal.returns
 returns c =

@@ -10,8 +10,8 @@ returns-then-total-scale-le1000000 c =
       some = c.loop-step.invariant.0;
     }
 
-pub overflow-mul-scale : goal.overflow-mul-scale
-overflow-mul-scale c = omega (arith, scale_room c.args.total c.loop-step.scale (omega arith) (omega arith))
+pub overflow_mul-scale : goal.overflow_mul-scale
+overflow_mul-scale c = omega (arith, scale_room c.args.total c.loop-step.scale (omega arith) (omega arith))
 
 pub loop-step-preserved : goal.loop-step-preserved
 loop-step-preserved c =
