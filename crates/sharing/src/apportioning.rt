@@ -29,8 +29,8 @@ fn part_at(
     before: u64,
     last: bool,
 ) -> u64
-    requires i_in_bounds { (i < length values.now) × (length parts.old ≡ length values.now) }
-    requires values_value { (before + total_of (drop i values.now) ≡ share.now.total) × (last ≡ (i + 1 == length values.now)) }
+    requires in_bounds { (i < length values.now) × (length parts.old ≡ length values.now) }
+    requires so_far { (before + total_of (drop i values.now) ≡ share.now.total) × (last ≡ (i + 1 == length values.now)) }
     ensures rest { result + total_of (drop (i + 1) values.now) ≡ share.now.total }
     ensures change { take (i + 1) parts.new ++ parts_from share.now.cash share.now.total result (drop (i + 1) values.now) ≡ take i parts.old ++ parts_from share.now.cash share.now.total before (drop i values.now) }
 {

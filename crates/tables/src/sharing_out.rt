@@ -60,7 +60,7 @@ fn part_at<V: Valuation>(
     walk: Walk,
 ) -> Walk
     requires place_in_bounds { place < length lines.old }
-    requires reached_2 { Reached (V.Valuation.worth valuation.now) currency prices.now number share.now.total lines.old place walk }
+    requires walk_reached { Reached (V.Valuation.worth valuation.now) currency prices.now number share.now.total lines.old place walk }
     ensures reached { Reached (V.Valuation.worth valuation.now) currency prices.now number share.now.total lines.new (place + 1) result }
     ensures parts { walked (V.Valuation.worth valuation.now) currency prices.now number share.now.cash share.now.total result.before (place + 1) lines.new ≡ walked (V.Valuation.worth valuation.now) currency prices.now number share.now.cash share.now.total walk.before place lines.old }
 {

@@ -14,7 +14,7 @@ loop-place-preserved c =
     let i = c.loop-place.place in
     let in' : i < length lines = omega (arith, c.requires.within) in
     let inv = c.loop-place.invariant in
-    let step = c.list-line-count.ensures in (
+    let step = c.list_line-count.ensures in (
       omega (arith, length_more c.args.party c.args.account ds lines i in', step.count, inv.0),
       grind (arith, nat_tests, step.count, inv.1),
       listed_more c.args.party c.args.account ds lines i in' c.args.places.now c.loop-place.places _ c.loop-place.count inv.2 inv.0 step.places,

@@ -5,8 +5,8 @@ use Rattle.panel.specs.Standing.{on_side}
 use Rattle.panel.proofs.Quantities.{quantity_more, counted_most}
 use Rattle.panel.proofs.standing.quantity.Goals as goal
 
-pub overflow-add-sum : goal.overflow-add-sum
-overflow-add-sum c =
+pub overflow_add-sum : goal.overflow_add-sum
+overflow_add-sum c =
     let h = c.args.head.now in
     let ds = used_deals h c.args.deals.now in
     let lines = c.args.lines.now in

@@ -8,7 +8,7 @@ use Rattle.tables.proofs.deals.add_deal.Goals as goal
 pub returns : goal.returns
 returns c =
     let h = c.args.head.now in
-    let done = c.put-deal.ensures in
+    let done = c.put_deal.ensures in
     record {
       answer = done.answer;
       deals = done.deals;

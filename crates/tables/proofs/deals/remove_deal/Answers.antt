@@ -8,7 +8,7 @@ use Rattle.tables.proofs.deals.remove_deal.Goals as goal
 pub returns : goal.returns
 returns c =
     let h = c.args.head.now in
-    let done = c.take-deal.ensures in
+    let done = c.take_deal.ensures in
     record {
       answer = done.answer;
       deals = done.deals;

@@ -8,7 +8,7 @@ use Rattle.tables.proofs.lines.add_line.Goals as goal
 pub returns : goal.returns
 returns c =
     let h = c.args.head.now in
-    let done = c.put-line.ensures in
+    let done = c.put_line.ensures in
     record {
       answer = done.answer;
       lines = done.lines;

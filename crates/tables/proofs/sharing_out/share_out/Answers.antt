@@ -6,5 +6,5 @@ pub returns : goal.returns
 returns g c =
     record {
       answer = search rules;
-      lines = shared_front (g.V.Valuation.worth c.args.valuation.now) c.args.currency c.args.prices.now c.args.number c.args.cash c.args.used (c.args.used - 0) c.args.lines.now c.share-over.new.lines (omega arith) (sym c.fit.ensures ∙ c.if-not-fit.false) c.share-over.ensures.lines;
+      lines = shared_front (g.V.Valuation.worth c.args.valuation.now) c.args.currency c.args.prices.now c.args.number c.args.cash c.args.used (c.args.used - 0) c.args.lines.now c.share_over.new.lines (omega arith) (sym c.fit.ensures ∙ c.if-not-fit.false) c.share_over.ensures.lines;
     }

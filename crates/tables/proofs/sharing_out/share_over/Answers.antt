@@ -1,12 +1,12 @@
 use Rattle.tables.proofs.Parted.{walk_starts, walk_ends}
 use Rattle.tables.proofs.sharing_out.share_over.Goals as goal
 
-pub part-all-requires : goal.part-all-requires
-part-all-requires g c =
-    walk_starts (g.V.Valuation.worth c.args.valuation.now) c.args.currency c.args.prices.now c.args.number c.args.lines.now c.args.cash c.total-on-total.result c.count-on-left.result c.in-Some.share c.total-on-total.ensures c.in-Some.ensures c.count-on-left.ensures
+pub part_all-requires : goal.part_all-requires
+part_all-requires g c =
+    walk_starts (g.V.Valuation.worth c.args.valuation.now) c.args.currency c.args.prices.now c.args.number c.args.lines.now c.args.cash c.total_on-total.result c.count_on-left.result c.in-Some.share c.total_on-total.ensures c.in-Some.ensures c.count_on-left.ensures
 
 pub returns : goal.returns
 returns g c =
     let done =
-    walk_ends (g.V.Valuation.worth c.args.valuation.now) c.args.currency c.args.prices.now c.args.number c.args.lines.now c.args.cash c.total-on-total.result c.count-on-left.result c.in-Some.share c.total-on-total.ensures c.in-Some.ensures c.part-all.new.lines c.part-all.ensures in
+    walk_ends (g.V.Valuation.worth c.args.valuation.now) c.args.currency c.args.prices.now c.args.number c.args.lines.now c.args.cash c.total_on-total.result c.count_on-left.result c.in-Some.share c.total_on-total.ensures c.in-Some.ensures c.part_all.new.lines c.part_all.ensures in
     record { answer = done.0; lines = done.1 }
