@@ -6,21 +6,21 @@ pub returns-in-Some : goal.returns-in-Some
 unfolding command_in
 returns-in-Some c = search rules
 
-pub returns-in-err-read-register : goal.returns-in-err-read-register
+pub returns-in_err-read_register : goal.returns-in_err-read_register
 unfolding command_in
-returns-in-err-read-register c = search rules
+returns-in_err-read_register c = search rules
 
-pub returns-in-Some-register-verb : goal.returns-in-Some-register-verb
+pub returns-in-Some-register_verb : goal.returns-in-Some-register_verb
 unfolding command_in
-returns-in-Some-register-verb c = search rules
+returns-in-Some-register_verb c = search rules
 
-pub returns-in-err-verb : goal.returns-in-err-verb
+pub returns-in_err-verb : goal.returns-in_err-verb
 unfolding command_in
-returns-in-err-verb c = search rules
+returns-in_err-verb c = search rules
 
-pub returns-in-err-read-call : goal.returns-in-err-read-call
+pub returns-in_err-read_call : goal.returns-in_err-read_call
 unfolding command_in
-returns-in-err-read-call c = search rules
+returns-in_err-read_call c = search rules
 
 pub returns : goal.returns
 unfolding command_in
