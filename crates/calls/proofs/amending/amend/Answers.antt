@@ -14,5 +14,5 @@ returns-in-Some g c =
 pub returns : goal.returns
 returns g c =
     let w : World = lent c.args.head.now c.args.deals.now c.args.lines.now (g.B.Book.meaning c.args.book.now) in
-    let k = amend_told w c.args.number c.args.rate c.args.due c.accounts.result c.resources.result c.accounts.ensures c.resources.ensures (sym c.in-default.is ∙ c.fault.ensures.answer) c.amend-sound.result c.amend-sound.ensures.answer c.amend-sound.new.deals c.amend-sound.ensures.deals in
+    let k = amend_told w c.args.number c.args.rate c.args.due c.accounts.result c.resources.result c.accounts.ensures c.resources.ensures (sym c.in_default.is ∙ c.fault.ensures.answer) c.amend_sound.result c.amend_sound.ensures.answer c.amend_sound.new.deals c.amend_sound.ensures.deals in
     record { answer = k.answer; world = k.world; law = k.law }

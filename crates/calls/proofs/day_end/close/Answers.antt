@@ -13,5 +13,5 @@ returns-in-Some g c =
 pub returns : goal.returns
 returns g c =
     let w : World = lent c.args.head.now c.args.deals.now c.args.lines.now (g.B.Book.meaning c.args.book.now) in
-    let k = close_told w c.args.date c.args.sheet c.accounts.result c.resources.result (search rules) c.accounts.ensures c.resources.ensures (sym c.in-default.is ∙ c.fault.ensures.answer) c.close-sound.result c.close-sound.ensures.answer c.close-sound.new.head c.close-sound.ensures.change c.close-sound.new.deals c.close-sound.ensures.deals in
+    let k = close_told w c.args.date c.args.sheet c.accounts.result c.resources.result (search rules) c.accounts.ensures c.resources.ensures (sym c.in_default.is ∙ c.fault.ensures.answer) c.close_sound.result c.close_sound.ensures.answer c.close_sound.new.head c.close_sound.ensures.change c.close_sound.new.deals c.close_sound.ensures.deals in
     record { answer = k.answer; world = k.world; law = k.law }
