@@ -1,12 +1,11 @@
 -- Movements make nothing and lose nothing. Assumes nothing.
-use Rattle.std.proofs.Common.{◌≡◌, ℕ, ◌+◌, ◌<◌, ◌≤◌, cond, List, [], ◌∷◌, length, is_ok, Ok, Err, Result, sym, refl, ap, ◌∙◌, inl, inr, add-zero, one-add, arith}
+use Rattle.std.proofs.Common.{◌≡◌, ℕ, ◌+◌, cond, List, [], ◌∷◌, length, is_ok, Ok, Err, Result, refl, ◌∙◌, inl, inr, add-zero, one-add, arith}
 use Rattle.std.proofs.lemmas.Bool.{cases_eq}
 use Rattle.std.proofs.lemmas.Bool.Decides.{nat_tests}
 use Rattle.book.specs.declared.movement.Movement.{Movement}
 use Rattle.book.specs.declared.refusal.BookRefusal.{BookRefusal}
 use Rattle.book.specs.Meaning.{Meaning}
 use Rattle.book.specs.Moving.{verdict, moved, after}
-use Rattle.book.specs.Totals.{in_all}
 use Rattle.book.specs.Lists.{run, refusal_from, attempted, accepted}
 use Rattle.book.specs.Law.{Conserved}
 use Rattle.book.proofs.Moves.{allowed}

@@ -1,5 +1,5 @@
 -- What a book means: its sizes, an amount and a holdback for each account and resource, and the movements left.
-use Rattle.std.specs.Prelude.{◌≡◌, ℕ, ◌-◌, ◌≤◌, Bool, true, false, cond, ◌&&◌, Some, None, Option, nat_lt}
+use Rattle.std.specs.Prelude.{◌≡◌, ℕ, ◌-◌, ◌≤◌, Bool, false, cond, ◌&&◌, Some, None, Option, nat_lt}
 
 pub record Meaning : Type 0 where
   pub accounts : ℕ

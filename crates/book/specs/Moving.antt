@@ -1,5 +1,5 @@
 -- What a book answers to a movement, and what it means after it.
-use Rattle.std.specs.Prelude.{◌≡◌, ℕ, ◌+◌, ◌-◌, ◌<◌, ◌≤◌, Bool, cond, not, ◌&&◌, [], ◌∷◌, is_ok, Result, ◌==◌, nat_lt}
+use Rattle.std.specs.Prelude.{ℕ, ◌+◌, ◌-◌, Bool, cond, not, ◌&&◌, [], ◌∷◌, is_ok, Result, ◌==◌, nat_lt}
 use Rattle.book.specs.declared.movement.Movement.{Movement}
 use Rattle.book.specs.declared.refusal.BookRefusal.{BookRefusal}
 use Rattle.book.specs.declared.refusal.BookRefusal.TheVariants.{Outside, Quantity, NotFree, NoRoom, NoMovements}

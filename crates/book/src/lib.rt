@@ -1,4 +1,6 @@
 //! What a book of accounts is, and lists of movements over any book.
+#![tactic(auto)]
+
 mod asking;
 mod contract;
 mod lists;

@@ -1,17 +1,15 @@
 -- Amounts that lie in memory row by row. Assumes nothing.
-use Rattle.std.proofs.Common.{◌≡◌, ℕ, zero, suc, ◌+◌, ◌-◌, ◌*◌, ◌/◌, ◌%◌, ◌<◌, ◌≤◌, Bool, true, false, cond, ◌&&◌, eqb, ltb, leb, ◌≢◌, List, [], ◌∷◌, length, get_or, drop, set, Ok, Err, Result, sym, refl, ap, ◌∙◌, inl, inr, arith}
+use Rattle.std.proofs.Common.{◌≡◌, ℕ, zero, suc, ◌+◌, ◌-◌, ◌*◌, ◌/◌, ◌%◌, ◌<◌, ◌≤◌, true, false, cond, ◌&&◌, eqb, leb, ◌≢◌, List, [], ◌∷◌, length, get_or, drop, set, Ok, sym, ap, ◌∙◌, inl, inr, arith}
 use mathlib.Core.Path.{fun_ext}
 use Rattle.std.proofs.lemmas.Nat.{mul-add-lt, div-mul-add, mod-mul-add}
 use Rattle.std.proofs.lemmas.List.{get_or-set_same, get_or-set_other, length-set, at_drop_more, at_drop_all}
-use Rattle.std.proofs.lemmas.Bool.{cases_lt, cases_eq, and_parts, leb-true, eqb-true, cond-true, cond-false, lt-leb, le-leb}
+use Rattle.std.proofs.lemmas.Bool.{cases_lt, cases_eq, and_parts, leb-true, lt-leb, le-leb}
 use Rattle.std.proofs.lemmas.Bool.Decides.{nat_tests}
-use Rattle.book.specs.declared.refusal.BookRefusal.{BookRefusal}
-use Rattle.book.specs.declared.refusal.BookRefusal.TheVariants.{Unfit}
 use Rattle.book.specs.declared.movement.Movement.{Movement}
-use Rattle.book.specs.Meaning.{Meaning, limit}
+use Rattle.book.specs.Meaning.{limit}
 use Rattle.book.specs.Moving.{verdict, moved, shifted}
 use Rattle.book.proofs.Moves.{allowed}
-use Rattle.books.specs.Laying.{all_low, sized, fits, checked, cell, opened, written}
+use Rattle.books.specs.Laying.{all_low, cell, opened, written}
 
 -- ── the check ──
 

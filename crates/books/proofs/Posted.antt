@@ -1,16 +1,16 @@
 -- A movement that is written as a posting. Assumes nothing.
-use Rattle.std.proofs.Common.{◌≡◌, ℕ, ◌+◌, ◌-◌, ◌*◌, ◌<◌, ◌≤◌, Bool, true, false, cond, ◌&&◌, eqb, ltb, ◌≢◌, List, [], ◌∷◌, ◌++◌, length, get_or, take, set, Some, None, Ok, Option, unwrap_or, sym, refl, ap, ◌∙◌, inl, inr, arith, below_more}
+use Rattle.std.proofs.Common.{◌≡◌, ℕ, ◌+◌, ◌-◌, ◌<◌, ◌≢◌, List, [], ◌∷◌, ◌++◌, length, get_or, set, Ok, unwrap_or, ap, ◌∙◌, inl, inr, arith, below_more}
 use mathlib.Core.Path.{fun_ext}
-use Rattle.std.proofs.lemmas.List.{get_or-set_same, get_or-set_other, take_more_set}
-use Rattle.std.proofs.lemmas.Bool.{cases_Bool, cases_eq}
+use Rattle.std.proofs.lemmas.List.{get_or-set_same, get_or-set_other}
+use Rattle.std.proofs.lemmas.Bool.{cases_eq}
 use Rattle.std.proofs.lemmas.Bool.Decides.{nat_tests}
 use Rattle.book.specs.declared.movement.Movement.{Movement}
-use Rattle.book.specs.Meaning.{Meaning, Lawful, limit}
+use Rattle.book.specs.Meaning.{Lawful}
 use Rattle.book.specs.Moving.{verdict, moved, shifted}
 use Rattle.book.proofs.Moves.{allowed}
 use Rattle.books.specs.declared.posting.Posting.{Posting}
-use Rattle.books.specs.Laying.{cell, opened}
-use Rattle.books.specs.Postings.{blank, posted, or_else, latest, standing, journalled, Sound}
+use Rattle.books.specs.Laying.{cell}
+use Rattle.books.specs.Postings.{blank, posted, latest, standing, journalled, Sound}
 use Rattle.books.specs.InRange.{value_or_or_else}
 use Rattle.books.proofs.Latest.{latest_push}
 

@@ -1,5 +1,5 @@
 -- That what the books mean is in its ranges. Assumes nothing.
-use Rattle.std.specs.Prelude.{◌≡◌, ℕ, suc, ◌+◌, ◌-◌, ◌*◌, ◌<◌, ◌≤◌, min, Bool, true, false, cond, ◌&&◌, List, [], ◌∷◌, length, take, Some, None, Option, ◌==◌, nat_lt, slice_index, slice_index_or, refl}
+use Rattle.std.specs.Prelude.{◌≡◌, ℕ, suc, ◌+◌, ◌*◌, ◌<◌, ◌≤◌, min, false, cond, ◌&&◌, List, [], ◌∷◌, length, take, Some, None, Option, ◌==◌, nat_lt, slice_index, slice_index_or, refl}
 use Rattle.std.proofs.Common.{ap, ◌∙◌, inl, inr, arith}
 use Rattle.std.proofs.lemmas.Nat.{mul-add-lt}
 use Rattle.std.proofs.lemmas.List.{get_or-take, length-take-le}
@@ -9,7 +9,7 @@ use Rattle.book.specs.Meaning.{Meaning, Lawful, within, limit}
 use Rattle.books.specs.declared.posting.Posting.{Posting}
 use Rattle.books.specs.declared.row.HoldRow.{HoldRow}
 use Rattle.books.specs.Laying.{Fit, cell, opened}
-use Rattle.books.specs.Postings.{blank, posted, Sound, or_else, latest, standing, journalled}
+use Rattle.books.specs.Postings.{blank, posted, Sound, or_else, latest, journalled}
 use Rattle.books.specs.Rows.{held}
 use Rattle.books.specs.Holding.{layered}
 

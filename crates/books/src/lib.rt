@@ -1,4 +1,6 @@
 //! Books: amounts in lent memory, a journal of postings, and a layer that holds back.
+#![tactic(auto)]
+
 mod grid;
 mod grid_book;
 mod holdback;

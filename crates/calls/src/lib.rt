@@ -1,4 +1,6 @@
 //! The nine calls.
+#![tactic(auto)]
+
 mod amending;
 mod day_end;
 mod growth;

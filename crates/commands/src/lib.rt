@@ -1,4 +1,6 @@
 //! What the console's commands do to the book, to the register's memory and to the sides in hand.
+#![tactic(auto)]
+
 mod acting;
 mod answer;
 mod hand;

@@ -1,4 +1,6 @@
 //! The slips that a call drafts, before it moves and writes them.
+#![tactic(auto)]
+
 mod draft;
 mod moving;
 

@@ -1,4 +1,6 @@
 //! Gathers a value of securities from a giver's free amounts, over any book and any valuation.
+#![tactic(auto)]
+
 mod basket;
 mod course;
 mod most;

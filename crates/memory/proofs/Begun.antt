@@ -1,9 +1,7 @@
 -- A fresh register. Assumes nothing.
-use Rattle.std.proofs.Common.{◌≡◌, ℕ, ◌-◌, ◌<◌, ◌≤◌, Bool, true, ◌&&◌, leb, List, [], ◌∷◌, length, replicate, sym, refl, ap, ◌∙◌, arith}
+use Rattle.std.proofs.Common.{◌≡◌, ℕ, ◌-◌, true, leb, [], length, replicate, ap, arith}
 use Rattle.std.proofs.lemmas.List.{length-replicate}
 use Rattle.std.proofs.lemmas.Bool.{and_parts, leb-true}
-use Rattle.memory.specs.declared.row.Deal.{Deal}
-use Rattle.memory.specs.declared.row.Line.{Line}
 use Rattle.memory.specs.Begin.{sized, fresh_head, Faultless}
 use Rattle.memory.specs.Register.{SoundDeal, SoundLine, Filled, Sound}
 use Rattle.memory.specs.Rows.{no_deal, no_line}

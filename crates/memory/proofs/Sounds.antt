@@ -1,11 +1,11 @@
 -- A register with no fault is sound, and a sound one has none. Assumes nothing.
-use Rattle.std.proofs.Common.{◌≡◌, ℕ, zero, suc, ◌+◌, ◌*◌, ◌<◌, ◌≤◌, Bool, true, false, cond, not, ◌&&◌, eqb, ltb, leb, List, [], ◌∷◌, length, get_or, take, Some, None, Option, sym, refl, ap, ◌∙◌, inl, inr, arith, MatchOption}
-use Rattle.std.proofs.lemmas.Bool.{and_parts, and_from, lt-ltb, ltb-true, le-leb, leb-true, eq-eqb, eqb-true, eqb-false, ne_eqb, not-true, not_from_false, cases_Bool, cond-true, false≢true}
+use Rattle.std.proofs.Common.{◌≡◌, ℕ, zero, suc, ◌*◌, ◌<◌, ◌≤◌, Bool, true, not, ◌&&◌, eqb, ltb, leb, List, [], ◌∷◌, length, get_or, Some, None, Option, sym, refl, ◌∙◌, inl, inr, arith}
+use Rattle.std.proofs.lemmas.Bool.{and_parts, and_from, lt-ltb, ltb-true, le-leb, leb-true, eq-eqb, eqb-true, ne_eqb, not-true, not_from_false, cases_Bool, cond-true, false≢true}
 use Rattle.std.proofs.lemmas.Bool.Decides.{nat_tests}
 use Rattle.sharing.specs.Accrual.{unit_of}
 use Rattle.sharing.specs.Limits.{most_cash, most_rate, most_daily}
 use Rattle.valuation.specs.Currencies.{number_of}
-use Rattle.valuation.specs.Most.{most_margin, most_sought, most_units}
+use Rattle.valuation.specs.Most.{most_margin, most_sought}
 use Rattle.valuation.specs.declared.currency.Currency.{Currency}
 use Rattle.valuation.specs.declared.currency.Currency.TheVariants.{Gbp, Eur, Usd}
 use Rattle.memory.specs.declared.place.Fault.{Fault}
@@ -18,9 +18,9 @@ use Rattle.memory.specs.declared.row.Weighing.{Weighing}
 use Rattle.memory.specs.declared.row.Weighing.TheVariants.{Margin, Haircut}
 use Rattle.memory.specs.Kinds.{weighing_number, base_of}
 use Rattle.memory.specs.Places.{Rising, deal_numbers, line_numbers}
-use Rattle.memory.specs.Register.{MarginHolds, SoundDeal, Stands, SoundLine, Filled, Sound, Told}
+use Rattle.memory.specs.Register.{MarginHolds, SoundDeal, Stands, SoundLine, Sound, Told}
 use Rattle.memory.specs.Rows.{no_deal, no_line}
-use Rattle.memory.specs.Sound.{most_number, margin_fits, parties_fit, terms_fit, interest_fits, numbered, parts_on, deal_fits, deal_sound, stands, ranges_fit, line_fits, line_sound, zero_terms, zero_cash, zero_deal, zero_line, first_broken, first_set, used_deals, used_lines, number, return_number, table_fault, deals_fault, lines_fault, head_sound, at, first_of, fault_of}
+use Rattle.memory.specs.Sound.{most_number, margin_fits, parties_fit, terms_fit, interest_fits, numbered, parts_on, deal_fits, deal_sound, stands, ranges_fit, line_fits, line_sound, zero_terms, zero_cash, zero_deal, zero_line, used_deals, used_lines, number, return_number, deals_fault, lines_fault, head_sound, at, first_of, fault_of}
 use Rattle.memory.proofs.Filled.{not_some, none_if, filled_from, filled_none, filled_at}
 
 -- ── a deal ──

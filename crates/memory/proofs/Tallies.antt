@@ -1,5 +1,5 @@
 -- Sums of parts for all deals at once. Assumes nothing.
-use Rattle.std.proofs.Common.{◌≡◌, ℕ, zero, suc, ◌+◌, ◌-◌, ◌^◌, ◌<◌, ◌≤◌, min, Bool, true, false, cond, eqb, ◌≢◌, List, [], ◌∷◌, length, get_or, take, drop, set, Some, None, Option, sym, refl, ap, ◌∙◌, inl, inr, arith}
+use Rattle.std.proofs.Common.{◌≡◌, ℕ, zero, suc, ◌+◌, ◌<◌, ◌≤◌, Bool, true, false, cond, eqb, List, [], ◌∷◌, length, get_or, drop, set, Some, None, Option, sym, refl, ap, ◌∙◌, inl, inr, arith}
 use Rattle.std.proofs.lemmas.List.{at_drop_more, at_drop_all, ext_get_or, get_or-set_same, get_or-set_other, length-set}
 use Rattle.std.proofs.lemmas.Bool.{cases_eq, eq-eqb, ne_eqb, cond-true, cond-false}
 use Rattle.std.specs.Option.{option_or}
@@ -7,7 +7,7 @@ use Rattle.memory.specs.declared.row.Line.{Line}
 use Rattle.memory.specs.Places.{Rising}
 use Rattle.memory.specs.Rows.{no_line}
 use Rattle.memory.specs.Sound.{first_set, parts_on}
-use Rattle.memory.specs.Tally.{capped, with_part, with_parts, names}
+use Rattle.memory.specs.Tally.{capped, with_part, with_parts}
 use Rattle.memory.proofs.Halves.{Before, rising_other}
 
 -- ── one line ──

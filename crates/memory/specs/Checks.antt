@@ -6,7 +6,7 @@ use Rattle.memory.specs.declared.row.Deal.{Deal}
 use Rattle.memory.specs.declared.row.Head.{Head}
 use Rattle.memory.specs.declared.row.Line.{Line}
 use Rattle.memory.specs.Rows.{no_deal}
-use Rattle.memory.specs.Sound.{parts_on, stands, line_fits, first_broken, first_set, zero_line, used_deals, used_lines, return_number}
+use Rattle.memory.specs.Sound.{parts_on, stands, line_fits, first_broken, first_set, zero_line, used_lines, return_number}
 
 -- the numbers of deals below the next one, and from there on numbers that rise further
 abbrev pub key_at : ℕ → List Deal → ℕ → ℕ

@@ -1,5 +1,5 @@
 -- The number of each case.
-use Rattle.std.specs.Prelude.{ℕ, Bool, true, false}
+use Rattle.std.specs.Prelude.{ℕ}
 use Rattle.sharing.specs.declared.accrual.DayBase.{DayBase}
 use Rattle.sharing.specs.declared.accrual.DayBase.TheVariants.{Actual365, Actual360}
 use Rattle.valuation.specs.declared.currency.Currency.{Currency}

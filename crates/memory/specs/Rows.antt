@@ -1,6 +1,5 @@
 -- Tables whose used rows come first.
-use Rattle.std.specs.Prelude.{ℕ, ◌+◌, ◌-◌, Bool, true, false, cond, ◌&&◌, eqb, List, [], ◌∷◌, ◌++◌, length, replicate}
-use Rattle.valuation.specs.Currencies.{number_of}
+use Rattle.std.specs.Prelude.{ℕ, ◌-◌, false, List, ◌++◌, length, replicate}
 use Rattle.valuation.specs.declared.currency.Currency.TheVariants.{Gbp}
 use Rattle.memory.specs.declared.row.Deal.{Deal}
 use Rattle.memory.specs.declared.row.Line.{Line}
@@ -8,7 +7,6 @@ use Rattle.memory.specs.declared.row.Slip.{Slip}
 use Rattle.memory.specs.declared.row.Kind.TheVariants.{Settle}
 use Rattle.memory.specs.declared.row.Sense.TheVariants.{Out}
 use Rattle.memory.specs.declared.row.Weighing.TheVariants.{Margin}
-use Rattle.memory.specs.Kinds.{weighing_number}
 
 -- the unused rows
 abbrev pub no_deal : Deal

@@ -1,5 +1,5 @@
 //! What is asked of a deal's row, and how it changes.
-ghost use Rattle.std.specs.Prelude.{◌≡◌, leb, is_some, if◌then◌else◌, Some, nat_le};
+ghost use Rattle.std.specs.Prelude.{◌≡◌, is_some, if◌then◌else◌, Some, nat_le};
 ghost use Rattle.std.specs.Option.{option_map};
 ghost use Rattle.memory.specs.Deals.{target_of, due_at, amended, less_cash, accrual_of, grown, valuation_of, target_in};
 ghost use Rattle.memory.specs.Kinds.{base_of};
@@ -59,7 +59,7 @@ impl Deal {
     /// Lowers the standing cash by a part of it; nothing changes where the part is larger.
     pub fn lower_cash(&mut self, part: u64) -> bool
         ensures answer { result ≡ nat_le part self.old.cash }
-        ensures change { self.new ≡ (if leb part self.old.cash then less_cash part self.old else self.old) }
+        ensures change { self.new ≡ (if nat_le part self.old.cash then less_cash part self.old else self.old) }
     {
         if part > self.cash {
             return false;

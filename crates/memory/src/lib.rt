@@ -1,4 +1,6 @@
 //! The register's memory, which a host lends: its rows, and whether they are sound.
+#![tactic(auto)]
+
 mod beginning;
 mod cash;
 mod checking;

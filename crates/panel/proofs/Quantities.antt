@@ -1,5 +1,5 @@
 -- Quantities of lines, line by line and over the securities. Assumes nothing.
-use Rattle.std.proofs.Common.{◌≡◌, ℕ, zero, suc, ◌+◌, ◌-◌, ◌<◌, ◌≤◌, Bool, true, false, cond, eqb, List, [], ◌∷◌, length, get_or, take, IfNone, Some, None, Option, sym, refl, ap, ◌∙◌, zero-add, arith}
+use Rattle.std.proofs.Common.{◌≡◌, ℕ, zero, suc, ◌+◌, ◌-◌, ◌<◌, ◌≤◌, Bool, true, false, cond, List, [], ◌∷◌, length, get_or, take, IfNone, Some, None, Option, sym, refl, ap, ◌∙◌, zero-add, arith}
 use Rattle.book.proofs.Totals.{sum_below_same, sum_below_one}
 use Rattle.book.specs.Totals.{sum_below}
 use Rattle.std.proofs.lemmas.List.Elements.{filter_more}
@@ -12,7 +12,7 @@ use Rattle.memory.specs.declared.row.Deal.{Deal}
 use Rattle.memory.specs.declared.row.Head.{Head}
 use Rattle.memory.specs.declared.row.Line.{Line}
 use Rattle.memory.specs.declared.place.Fault.{Fault}
-use Rattle.memory.specs.Register.{SoundLine, Filled, Sound, Told}
+use Rattle.memory.specs.Register.{Sound, Told}
 use Rattle.memory.specs.Rows.{no_line}
 use Rattle.memory.specs.Sound.{used_deals, used_lines}
 use Rattle.valuation.specs.Most.{most_units}

@@ -1,5 +1,5 @@
 -- What stands on the lines of deals that an account is a party to.
-use Rattle.std.specs.Prelude.{◌≡◌, ℕ, ◌+◌, ◌-◌, ◌≤◌, Bool, true, false, cond, List, [], ◌∷◌, ◌++◌, length, take, drop, Some, None, sum_by, filter, Option, ◌==◌}
+use Rattle.std.specs.Prelude.{◌≡◌, ℕ, ◌+◌, ◌-◌, ◌≤◌, Bool, false, cond, List, [], ◌∷◌, ◌++◌, length, take, drop, Some, None, sum_by, filter, Option, ◌==◌}
 use Rattle.std.specs.List.{AllByRecursion as All}
 use Rattle.book.specs.Totals.{sum_below}
 use Rattle.memory.specs.declared.row.Deal.{Deal}

@@ -1,4 +1,6 @@
 //! The front panel: what of a member's securities is still to come back, by the standing lines.
+#![tactic(auto)]
+
 mod asking;
 mod listing;
 mod party;

@@ -1,4 +1,6 @@
 //! The console: a script in, everything that happened out.
+#![tactic(auto)]
+
 mod output;
 mod register;
 mod session;

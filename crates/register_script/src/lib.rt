@@ -1,4 +1,6 @@
 //! The console's language: a line of a script is read into a command.
+#![tactic(auto)]
+
 mod call;
 mod command;
 mod line;

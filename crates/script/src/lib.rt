@@ -1,4 +1,6 @@
 //! The console's language: a line of a script is read into a command.
+#![tactic(auto)]
+
 mod command;
 mod number;
 mod reader;

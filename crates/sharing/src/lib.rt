@@ -1,4 +1,6 @@
 //! Cash shared over lines, and interest that accrues.
+#![tactic(auto)]
+
 mod accrual;
 mod apportioning;
 mod laws;

@@ -1,5 +1,5 @@
 -- Opening, closing and lifting the day end.
-use Rattle.std.specs.Prelude.{ℕ, ◌+◌, Bool, true, false, cond, not, ◌&&◌, [], ◌∷◌, is_ok, Ok, Err, Result, nat_le}
+use Rattle.std.specs.Prelude.{ℕ, ◌+◌, Bool, true, false, cond, not, ◌&&◌, [], ◌∷◌, is_ok, Result, nat_le}
 use Rattle.std.specs.Result.{result_map_both}
 use Rattle.book.specs.Refusals.{first_of}
 use Rattle.memory.specs.declared.row.Head.{Head}

@@ -1,4 +1,6 @@
 //! What the two sides of a deal state, their matching, the day sheet, and why the register refuses.
+#![tactic(auto)]
+
 mod day_end;
 mod pair;
 mod refusal;

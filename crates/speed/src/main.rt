@@ -1,6 +1,8 @@
 //! Checks a full register once for each byte of the input: 'g' one whose deals' lines lie together, any other byte one whose lines take
 //! turns. A longer input is so many more checks and nothing else: the
 //! cost of one check is the difference of two runs, by the difference of their lengths.
+#![tactic(auto)]
+
 use memory::{Deal, Head, Line, NO_DEAL, NO_LINE, Next, Phase, Used, Weighing, fault};
 use std::io::Read;
 use valuation::Currency;

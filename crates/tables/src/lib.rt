@@ -1,4 +1,6 @@
 //! Changes of a register's tables, what the lines of a deal are worth, and its cash shared out over them.
+#![tactic(auto)]
+
 mod deals;
 mod gap;
 mod held;

@@ -1,5 +1,5 @@
 //! A deal's standing cash, shared out over its lines.
-ghost use Rattle.std.specs.Prelude.{◌≡◌, ◌+◌, ◌<◌, ◌≤◌, ◌&&◌, leb, length, if◌then◌else◌, nat_le};
+ghost use Rattle.std.specs.Prelude.{◌≡◌, ◌+◌, ◌<◌, ◌≤◌, ◌&&◌, length, if◌then◌else◌, nat_le};
 ghost use Rattle.memory.specs.Sound.{return_number};
 ghost use Rattle.sharing.specs.Limits.{most_cash};
 ghost use Rattle.sharing.specs.Parts.{line_part};
@@ -107,7 +107,7 @@ fn share_over<V: Valuation>(
 ) -> bool
     requires { length lines.old ≤ 1024 }
     ensures answer { result ≡ nat_le cash most_cash }
-    ensures lines { lines.new ≡ (if leb cash most_cash then shared_out (V.Valuation.worth valuation.now) currency prices.now number cash lines.old else lines.old) }
+    ensures lines { lines.new ≡ (if nat_le cash most_cash then shared_out (V.Valuation.worth valuation.now) currency prices.now number cash lines.old else lines.old) }
 {
     let total = total_on(valuation, prices, currency, number, lines);
     let left = count_on(number, lines);

@@ -1,4 +1,6 @@
 //! Lines of a text, and the words and numbers of a line.
+#![tactic(auto)]
+
 mod number;
 mod reader;
 mod reading;

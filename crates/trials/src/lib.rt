@@ -1,4 +1,6 @@
 //! Tests by table over the whole library, and the smallest book of one's own.
+#![tactic(auto)]
+
 mod movements;
 mod sealed;
 

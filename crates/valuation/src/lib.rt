@@ -1,4 +1,6 @@
 //! Price records, what a quantity of a security is worth, and the search for a quantity by its worth.
+#![tactic(auto)]
+
 mod currency;
 mod making;
 mod price;

@@ -1,5 +1,5 @@
 //! The making, filling and reading of a draft.
-ghost use Rattle.std.specs.Prelude.{◌≡◌, ltb, [], ◌∷◌, ◌++◌, length, if◌then◌else◌, nat_lt};
+ghost use Rattle.std.specs.Prelude.{◌≡◌, [], ◌∷◌, ◌++◌, length, if◌then◌else◌, nat_lt};
 ghost use Rattle.law.specs.Slips.{movement_of, movements_of};
 ghost use Rattle.drafts.specs.Drafts.{slips_of, most_slips};
 
@@ -52,7 +52,7 @@ impl Draft {
     /// Adds a slip. False, and nothing changes, where there are 1,024.
     pub fn put(&mut self, slip: Slip) -> bool
         ensures answer { result ≡ nat_lt (length (slips_of self.old)) most_slips }
-        ensures slips { slips_of self.new ≡ (if ltb (length (slips_of self.old)) most_slips then slips_of self.old ++ (slip ∷ []) else slips_of self.old) }
+        ensures slips { slips_of self.new ≡ (if nat_lt (length (slips_of self.old)) most_slips then slips_of self.old ++ (slip ∷ []) else slips_of self.old) }
     {
         if self.count >= 1_024 {
             return false;

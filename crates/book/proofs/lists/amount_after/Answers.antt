@@ -1,4 +1,4 @@
-use Rattle.std.proofs.Common.{◌≡◌, get_or, take, sym, ap, ◌∙◌, arith}
+use Rattle.std.proofs.Common.{get_or, sym, ap, ◌∙◌, arith}
 use Rattle.book.specs.Meaning.{Meaning}
 use Rattle.book.specs.Moving.{shifted}
 use Rattle.book.specs.Lists.{run, none}

@@ -1,6 +1,4 @@
-use Rattle.std.proofs.Common.{◌≡◌, ◌+◌, get_or, drop, sym, ap, ◌∙◌, rules}
-use Rattle.book.specs.Meaning.{Meaning}
-use Rattle.book.specs.Lists.{none, attempted, accepted}
+use Rattle.std.proofs.Common.{rules}
 use Rattle.book.proofs.Attempts.{attempted_more, accepted_more}
 use Rattle.book.proofs.lists.attempt_at.Goals as goal
 

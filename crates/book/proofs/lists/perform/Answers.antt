@@ -1,4 +1,4 @@
-use Rattle.std.proofs.Common.{◌≡◌, cond, length, is_ok, Ok, sym, refl, ap, ◌∙◌, subst, arith}
+use Rattle.std.proofs.Common.{◌≡◌, cond, length, is_ok, Ok, sym, ap, ◌∙◌, subst, arith}
 use Rattle.book.specs.Meaning.{Meaning}
 use Rattle.book.specs.Law.{Conserved}
 use Rattle.book.specs.Lists.{run, rehearsed}

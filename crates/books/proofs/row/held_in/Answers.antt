@@ -1,4 +1,4 @@
-use Rattle.std.proofs.Common.{◌≡◌, sym, ◌∙◌, arith}
+use Rattle.std.proofs.Common.{sym, ◌∙◌, arith}
 use Rattle.books.proofs.Held.{held_here, held_later, held_all}
 use Rattle.books.proofs.row.held_in.Goals as goal
 

@@ -1,9 +1,9 @@
-use Rattle.std.proofs.Common.{◌≡◌, List, length, replicate, sym, ap, ◌∙◌, subst}
+use Rattle.std.proofs.Common.{List, length, replicate, sym, subst}
 use Rattle.memory.specs.declared.row.Deal.{Deal}
 use Rattle.memory.specs.declared.row.Head.{Head}
 use Rattle.memory.specs.declared.row.Line.{Line}
 use Rattle.memory.specs.Begin.{fresh_head, Faultless}
-use Rattle.memory.specs.Rows.{no_deal, no_line}
+use Rattle.memory.specs.Rows.{no_deal}
 use Rattle.memory.proofs.Begun.{fresh_faultless}
 use Rattle.memory.proofs.beginning.write_fresh.Goals as goal
 

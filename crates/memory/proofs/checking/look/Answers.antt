@@ -1,4 +1,4 @@
-use Rattle.std.proofs.Common.{◌≡◌, None, sym, ◌∙◌}
+use Rattle.std.proofs.Common.{◌∙◌}
 use Rattle.memory.proofs.Deals.{count_within, keys_rising, looked_broken, looked_loose}
 use Rattle.memory.proofs.checking.look.Goals as goal
 

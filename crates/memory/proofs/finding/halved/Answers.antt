@@ -1,4 +1,4 @@
-use Rattle.std.proofs.Common.{◌≡◌, ◌+◌, ◌/◌, ◌<◌, map, length, get_or, arith}
+use Rattle.std.proofs.Common.{◌+◌, ◌/◌, arith}
 use Rattle.std.proofs.lemmas.List.{length-map}
 use Rattle.memory.proofs.Halves.{sought_up, sought_down, key_read}
 use Rattle.memory.proofs.finding.halved.Goals as goal

@@ -1,4 +1,4 @@
-use Rattle.std.proofs.Common.{◌≡◌, ◌<◌, length, get_or, arith}
+use Rattle.std.proofs.Common.{get_or, arith}
 use Rattle.memory.specs.Rows.{no_line}
 use Rattle.memory.specs.Sound.{used_deals}
 use Rattle.panel.specs.Standing.{on_side}

@@ -1,4 +1,4 @@
-use Rattle.std.proofs.Common.{refl, arith}
+use Rattle.std.proofs.Common.{refl}
 use Rattle.std.proofs.lemmas.List.{length-set}
 use Rattle.books.proofs.Cells.{sender_place, receiver_place, opened_moved}
 use Rattle.books.proofs.grid.Grid.write.Goals as goal

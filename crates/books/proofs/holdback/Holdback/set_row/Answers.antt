@@ -1,6 +1,5 @@
 use Rattle.std.proofs.Common.{◌≡◌, false, cond, sym, ap, ◌∙◌}
-use Rattle.std.proofs.lemmas.Bool.{ne_eqb}
-use Rattle.books.specs.Rows.{free, named, any, replaced, row_of}
+use Rattle.books.specs.Rows.{named, any, replaced, row_of}
 use Rattle.books.proofs.Held.{free_taken}
 use Rattle.books.proofs.holdback.Holdback.set_row.Goals as goal
 
