@@ -1,5 +1,5 @@
 -- A payment, as it runs, is as it is defined.
-use Rattle.std.proofs.Common.{◌≡◌, ℕ, ◌+◌, ◌-◌, ◌<◌, ◌≤◌, Bool, true, false, cond, not, ltb, List, [], ◌∷◌, ◌++◌, map, length, get_or, take, drop, is_ok, Some, None, Ok, Err, Option, Result, sym, refl, ap, ◌∙◌, subst, append-nil, arith}
+use Rattle.std.proofs.Common.{◌≡◌, ℕ, ◌+◌, ◌-◌, ◌<◌, ◌≤◌, true, cond, not, ltb, List, [], ◌∷◌, map, length, get_or, is_ok, Some, None, Ok, Err, Option, Result, sym, refl, ap, ◌∙◌, append-nil, arith}
 use Rattle.std.specs.Result.{result_map_both}
 use Rattle.std.proofs.lemmas.Bool.{both_ways}
 use Rattle.book.specs.Lists.{run}
@@ -10,7 +10,6 @@ use Rattle.memory.specs.declared.place.Fault.{Fault}
 use Rattle.memory.specs.declared.row.Deal.{Deal}
 use Rattle.memory.specs.declared.row.Head.{Head}
 use Rattle.memory.specs.declared.row.Kind.TheVariants.{Pay}
-use Rattle.memory.specs.declared.row.Line.{Line}
 use Rattle.memory.specs.declared.row.Phase.{Phase}
 use Rattle.memory.specs.declared.row.Phase.TheVariants.{Day, DayEnd}
 use Rattle.memory.specs.declared.row.Slip.{Slip}
@@ -27,7 +26,7 @@ use Rattle.tables.specs.Rows.{removed, without, using_deals}
 use Rattle.tables.proofs.Padded.{without_padded, length_removed}
 use Rattle.law.specs.World.{World, state_of, world_of}
 use Rattle.law.specs.Finding.{replaced, has_deal, deal_of}
-use Rattle.law.specs.Slips.{cash_slips, movements_of, lines_by, issues}
+use Rattle.law.specs.Slips.{movements_of, lines_by, issues}
 use Rattle.law.specs.Changes.{gone}
 use Rattle.law.specs.Plans.{Plan, asis, carried, checked}
 use Rattle.law.specs.Calls.{Call, pay, or_plan, payRefusals, payPlan, paySlips, planned, has_lines}

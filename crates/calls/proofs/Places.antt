@@ -1,9 +1,9 @@
 -- The first row of a number, by its place.
-use Rattle.std.proofs.Common.{◌≡◌, ℕ, zero, suc, ◌+◌, ◌<◌, Bool, true, false, cond, eqb, List, [], ◌∷◌, ◌++◌, map, length, get_or, take, drop, set, Some, None, sym, refl, ap, ◌∙◌, arith}
+use Rattle.std.proofs.Common.{◌≡◌, ℕ, zero, suc, ◌+◌, ◌<◌, true, false, cond, eqb, List, [], ◌∷◌, ◌++◌, map, length, get_or, take, drop, set, Some, None, sym, refl, ap, ◌∙◌, arith}
 use Rattle.std.proofs.lemmas.List.{length-map, get_or-map}
 use Rattle.std.proofs.lemmas.Bool.{eq-eqb, ne_eqb}
 use Rattle.memory.specs.Places.{place_of}
-use Rattle.memory.proofs.Halves.{Before, PlaceIs, place_some, place_none}
+use Rattle.memory.proofs.Halves.{place_some, place_none}
 use Rattle.law.specs.Finding.{has, found, replaced}
 
 module _ {X : Type 0} (key : X → ℕ) where

@@ -1,10 +1,9 @@
 -- An amend, by the place of the deal's row.
-use Rattle.std.specs.Prelude.{ℕ, ◌+◌, Bool, cond, not, ◌&&◌, List, [], ◌∷◌, is_ok, Some, None, Ok, Err, Option, Result, nat_le, slice_index_or, slice_set}
+use Rattle.std.specs.Prelude.{ℕ, ◌+◌, Bool, cond, not, ◌&&◌, List, [], ◌∷◌, is_ok, Some, None, Err, Option, Result, nat_le, slice_index_or, slice_set}
 use Rattle.book.specs.Refusals.{first_of}
 use Rattle.memory.specs.declared.row.Deal.{Deal}
 use Rattle.memory.specs.declared.row.Head.{Head}
 use Rattle.memory.specs.Deals.{due_at, amended}
-use Rattle.memory.specs.Places.{place_of, deal_numbers}
 use Rattle.memory.specs.Rows.{no_deal}
 use Rattle.sharing.specs.Limits.{most_rate}
 use Rattle.sides.specs.declared.refusal.Refusal.{Refusal}

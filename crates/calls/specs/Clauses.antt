@@ -1,5 +1,5 @@
 -- What the contracts of the calls cite.
-use Rattle.std.specs.Prelude.{◌≡◌, ℕ, List, length, Some, None, Ok, Err, Option, Result}
+use Rattle.std.specs.Prelude.{ℕ, List, length, Some, None, Ok, Err, Option, Result}
 use Rattle.book.specs.Meaning.{Meaning}
 use Rattle.memory.specs.declared.place.Fault.{Fault}
 use Rattle.memory.specs.declared.row.Deal.{Deal}

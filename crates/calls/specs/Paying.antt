@@ -1,5 +1,5 @@
 -- A payment, by the place of the deal's row.
-use Rattle.std.specs.Prelude.{ℕ, ◌-◌, Bool, cond, List, length, is_ok, Some, None, Ok, Err, Option, Result, slice_index_or}
+use Rattle.std.specs.Prelude.{ℕ, ◌-◌, cond, List, length, is_ok, Some, None, Err, Option, Result, slice_index_or}
 use Rattle.std.specs.Result.{result_map_both}
 use Rattle.book.specs.Lists.{run}
 use Rattle.book.specs.Meaning.{Meaning}

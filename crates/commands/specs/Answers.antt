@@ -5,7 +5,6 @@ use Rattle.book.specs.declared.refusal.BookRefusal.TheVariants.{Outside}
 use Rattle.memory.specs.declared.place.Fault.{Fault}
 use Rattle.panel.specs.declared.refusal.PanelRefusal.{PanelRefusal}
 use Rattle.panel.specs.declared.refusal.PanelRefusal.TheVariants as panel
-use Rattle.sides.specs.declared.refusal.Refusal.{Refusal}
 use Rattle.sides.specs.declared.refusal.Refusal.TheVariants.{Broken}
 use Rattle.commands.specs.declared.answer.Answer.{Answer}
 use Rattle.commands.specs.declared.answer.Answer.TheVariants.{Accepted, ByBook, ByRegister}

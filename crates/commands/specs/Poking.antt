@@ -1,5 +1,5 @@
 -- Writing into the lent memory.
-use Rattle.std.specs.Prelude.{ℕ, ◌^◌, Bool, true, false, cond, List, length, is_some, Some, None, Option, ◌==◌, nat_lt, slice_index_or, slice_set}
+use Rattle.std.specs.Prelude.{ℕ, ◌^◌, cond, List, length, Some, None, Option, ◌==◌, nat_lt, slice_index_or, slice_set}
 use Rattle.std.specs.Option.{option_map, unwrap_or}
 use Rattle.memory.specs.declared.row.Deal.{Deal}
 use Rattle.memory.specs.declared.row.Head.{Head}
@@ -11,7 +11,6 @@ use Rattle.register_script.specs.declared.poke.HeadField.{HeadField}
 use Rattle.register_script.specs.declared.poke.HeadField.TheVariants as head
 use Rattle.register_script.specs.declared.poke.LineField.{LineField}
 use Rattle.register_script.specs.declared.poke.LineField.TheVariants as line
-use Rattle.register_script.specs.declared.poke.Poke.{Poke}
 use Rattle.register_script.specs.declared.poke.Target.{Target}
 use Rattle.register_script.specs.declared.poke.Target.TheVariants.{Head as InHead, Deal as InDeal, Line as InLine}
 use Rattle.commands.specs.declared.answer.Answer.{Answer}

@@ -1,5 +1,5 @@
 -- What replacing a record of the price list comes to.
-use Rattle.std.specs.Prelude.{ℕ, ◌+◌, ◌-◌, Bool, cond, ◌&&◌, List, length, nat_le, nat_lt, slice_set}
+use Rattle.std.specs.Prelude.{ℕ, ◌-◌, Bool, cond, ◌&&◌, List, length, nat_le, nat_lt, slice_set}
 use Rattle.register_script.specs.declared.command.Quotation.{Quotation}
 use Rattle.sides.specs.declared.refusal.Refusal.TheVariants.{OutOfRange}
 use Rattle.valuation.specs.declared.price.Price.{Price}

@@ -1,5 +1,5 @@
 -- A deal's rate and return day replaced.
-use Rattle.std.proofs.Common.{◌≡◌, ℕ, ◌+◌, ◌-◌, ◌/◌, ◌≤◌, Bool, true, false, cond, eqb, List, [], ◌∷◌, ◌++◌, sym, refl, ap, ◌∙◌, subst, inl, inr, arith}
+use Rattle.std.proofs.Common.{◌≡◌, ℕ, ◌/◌, ◌≤◌, Bool, true, false, cond, eqb, List, [], ◌∷◌, ◌++◌, sym, refl, ap, ◌∙◌, subst, inl, inr, arith}
 use Rattle.std.proofs.lemmas.Bool.{cases_eq, both_ways, eq-eqb}
 use Rattle.book.specs.Meaning.{Meaning}
 use Rattle.memory.specs.declared.row.Deal.{Deal}
@@ -7,7 +7,6 @@ use Rattle.memory.specs.declared.row.Line.{Line}
 use Rattle.memory.specs.Deals.{amended as amendedTo}
 use Rattle.memory.specs.Rows.{no_deal}
 use Rattle.memory.specs.Sound.{number}
-use Rattle.sharing.proofs.Interest.{dated}
 use Rattle.sharing.specs.Limits.{most_rate}
 use Rattle.law.specs.Sums.{only, total}
 use Rattle.law.specs.Finding.{replaced, has_deal, deal_of}

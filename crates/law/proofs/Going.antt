@@ -1,5 +1,5 @@
 -- A deal that is paid its interest and goes.
-use Rattle.std.proofs.Common.{◌≡◌, ℕ, ◌+◌, ◌-◌, ◌*◌, ◌/◌, ◌<◌, Bool, true, false, cond, List, [], ◌∷◌, ◌++◌, Ok, sym, refl, ap, ◌∙◌, subst, inl, inr, arith}
+use Rattle.std.proofs.Common.{◌≡◌, ℕ, ◌+◌, ◌*◌, ◌/◌, ◌<◌, Bool, true, false, cond, List, [], ◌∷◌, ◌++◌, Ok, sym, refl, ap, ◌∙◌, subst, inl, inr, arith}
 use Rattle.std.specs.List.{AllByRecursion as All}
 use Rattle.std.proofs.lemmas.Bool.{cases_eq, both_ways, eq-eqb}
 use Rattle.book.specs.Lists.{run, rehearsed}
@@ -9,7 +9,6 @@ use Rattle.memory.specs.declared.row.Deal.{Deal}
 use Rattle.memory.specs.declared.row.Line.{Line}
 use Rattle.memory.specs.Rows.{no_deal}
 use Rattle.memory.specs.Sound.{number}
-use Rattle.sharing.proofs.Interest.{dated}
 use Rattle.valuation.specs.declared.currency.Currency.{Currency}
 use Rattle.valuation.specs.declared.currency.Currency.TheVariants.{Gbp, Eur, Usd}
 use Rattle.law.specs.Sums.{only, total}

@@ -10,7 +10,6 @@ use Rattle.memory.specs.declared.row.Line.{Line}
 use Rattle.memory.specs.Deals.{less_cash}
 use Rattle.memory.specs.Rows.{no_deal}
 use Rattle.memory.specs.Sound.{number}
-use Rattle.sharing.proofs.Interest.{dated}
 use Rattle.law.specs.Sums.{only, total}
 use Rattle.law.specs.Finding.{replaced, has_deal, deal_of}
 use Rattle.law.specs.Slips.{movements_of}

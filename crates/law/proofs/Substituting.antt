@@ -1,5 +1,5 @@
 -- A quantity of a line replaced by another security.
-use Rattle.std.proofs.Common.{◌≡◌, ℕ, ◌-◌, ◌<◌, min, true, false, eqb, ltb, leb, List, [], ◌∷◌, is_some, Some, None, Ok, Option, unwrap_or, sym, refl, ap, subst, arith, MatchOption}
+use Rattle.std.proofs.Common.{◌≡◌, ℕ, ◌<◌, min, true, false, eqb, ltb, leb, List, [], ◌∷◌, is_some, Some, None, Ok, Option, unwrap_or, sym, refl, ap, subst, arith, MatchOption}
 use Rattle.std.proofs.lemmas.Bool.{eq-eqb, both_ways, and_parts, leb-true, ltb-true}
 use Rattle.book.specs.Meaning.{free}
 use Rattle.memory.specs.declared.row.Deal.{Deal}

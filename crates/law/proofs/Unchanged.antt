@@ -1,5 +1,5 @@
 -- Deals of which an entry says nothing, and a plan that moves nothing but stock.
-use Rattle.std.proofs.Common.{◌≡◌, ℕ, ◌+◌, ◌-◌, ◌/◌, ◌<◌, ◌≤◌, true, false, eqb, List, [], ◌∷◌, Ok, sym, refl, ap, ◌∙◌, subst, arith}
+use Rattle.std.proofs.Common.{◌≡◌, ℕ, ◌+◌, ◌/◌, ◌<◌, ◌≤◌, true, false, eqb, List, [], ◌∷◌, Ok, sym, refl, ap, ◌∙◌, subst, arith}
 use Rattle.std.specs.List.{AllByRecursion as All}
 use Rattle.std.proofs.lemmas.Bool.{both_ways}
 use Rattle.std.proofs.lemmas.Bool.Decides.{nat_tests}
@@ -11,8 +11,6 @@ use Rattle.memory.specs.declared.row.Line.{Line}
 use Rattle.memory.specs.declared.row.Sense.{Sense}
 use Rattle.memory.specs.declared.row.Sense.TheVariants.{Out, Back, Cash}
 use Rattle.memory.specs.declared.row.Slip.{Slip}
-use Rattle.memory.specs.Sound.{number}
-use Rattle.sharing.proofs.Interest.{dated}
 use Rattle.law.specs.Sums.{only, total}
 use Rattle.law.specs.Finding.{has_deal}
 use Rattle.law.specs.Slips.{movements_of, line_by_sense, issuing}

@@ -1,5 +1,5 @@
 -- How a call changes the deals.
-use Rattle.std.specs.Prelude.{ℕ, ◌+◌, List, [], ◌∷◌, ◌++◌, map}
+use Rattle.std.specs.Prelude.{ℕ, List, [], ◌∷◌, ◌++◌, map}
 use Rattle.memory.specs.declared.row.Deal.{Deal}
 use Rattle.memory.specs.Deals.{less_cash, amended as amendedTo, grown as grownBy}
 use Rattle.memory.specs.Sound.{number}

@@ -2,7 +2,6 @@ use Rattle.std.proofs.Common.{sym, ◌∙◌}
 use Rattle.law.specs.World.{World}
 use Rattle.calls.specs.Clauses.{lent}
 use Rattle.calls.proofs.Amends.{amend_broken, amend_told}
-use Rattle.calls.proofs.DayEnds.{Ran}
 use Rattle.calls.proofs.amending.amend.Goals as goal
 
 pub returns-in-Some : goal.returns-in-Some

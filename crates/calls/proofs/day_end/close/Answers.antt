@@ -1,7 +1,7 @@
-use Rattle.std.proofs.Common.{sym, ◌∙◌, arith, rules}
+use Rattle.std.proofs.Common.{sym, ◌∙◌, rules}
 use Rattle.law.specs.World.{World}
 use Rattle.calls.specs.Clauses.{lent}
-use Rattle.calls.proofs.DayEnds.{Ran, close_broken, close_told}
+use Rattle.calls.proofs.DayEnds.{close_broken, close_told}
 use Rattle.calls.proofs.day_end.close.Goals as goal
 
 pub returns-in-Some : goal.returns-in-Some

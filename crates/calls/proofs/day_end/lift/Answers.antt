@@ -1,6 +1,6 @@
 use Rattle.law.specs.World.{World}
 use Rattle.calls.specs.Clauses.{lent}
-use Rattle.calls.proofs.DayEnds.{Ran, lift_told}
+use Rattle.calls.proofs.DayEnds.{lift_told}
 use Rattle.calls.proofs.day_end.lift.Goals as goal
 
 pub returns : goal.returns

@@ -1,7 +1,6 @@
-use Rattle.std.proofs.Common.{arith, rules}
 use Rattle.law.specs.World.{World}
 use Rattle.calls.specs.Clauses.{lent}
-use Rattle.calls.proofs.DayEnds.{Ran, open_told}
+use Rattle.calls.proofs.DayEnds.{open_told}
 use Rattle.calls.proofs.day_end.open.Goals as goal
 
 pub returns : goal.returns

@@ -1,7 +1,7 @@
 use Rattle.std.proofs.Common.{sym, refl, ◌∙◌}
 use Rattle.law.specs.World.{World}
 use Rattle.calls.specs.Clauses.{lent}
-use Rattle.calls.proofs.Payments.{Wrote, pay_broken, pay_told}
+use Rattle.calls.proofs.Payments.{pay_broken, pay_told}
 use Rattle.calls.proofs.paying.pay.Goals as goal
 
 pub returns-in-Some : goal.returns-in-Some
