@@ -4,7 +4,7 @@ use Rattle.std.proofs.ByRecursion.{All-weaker}
 use Rattle.std.proofs.lemmas.List.{drop_more, drop_all}
 use Rattle.std.proofs.lemmas.Bool.{cases_lt, cond_both, cond-true, cond-false, eqb-true, eqb-false, leb-true, leb-false}
 use Rattle.std.specs.Option.{option_map}
-use Rattle.std.specs.List.{AllByRecursion as All}
+use Rattle.std.specs.List.{AllByRecursion as Each}
 use Rattle.book.specs.Meaning.{Meaning}
 use Rattle.valuation.specs.declared.price.Price.{Price}
 use Rattle.valuation.specs.Prices.{no_price}
@@ -39,9 +39,9 @@ cases_cons x (Some xs) P P' Q Q' f g h = g xs h
 module _ (m : Meaning) (worth : ℕ → ℕ → ℕ → ℕ) (qs : List Price) (o : Order) (held : List ℕ) where
   -- what is left to gather from place k on is covered by picks, where so many securities were taken, or it is not
   record CoversFrom (k need count : ℕ) (ps : List Price) (picks : List Pick) : Type 0 where
-    above : All (λ x. security_at k ≤ x.security) picks
+    above : Each (λ x. security_at k ≤ x.security) picks
     rising : Rising picks
-    allowed : All (λ x. Allowed m worth qs o held x.security x.quantity) picks
+    allowed : Each (λ x. Allowed m worth qs o held x.security x.quantity) picks
     few : length picks + count ≤ most_picks
     enough : need ≤ value_of_all worth qs o picks
     in_turn : map (λ x. x.security) picks ≡ take (length picks) (takeable_from m worth o held k ps)

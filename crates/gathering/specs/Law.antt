@@ -1,6 +1,6 @@
 -- What a gathering comes to, in the words of the subject.
 use Rattle.std.specs.Prelude.{◌≡◌, ℕ, ◌+◌, ◌-◌, ◌/◌, ◌<◌, ◌≤◌, true, cond, List, [], ◌∷◌, ◌++◌, map, length, take, slice_index, slice_index_or}
-use Rattle.std.specs.List.{AllByRecursion as All}
+use Rattle.std.specs.List.{AllByRecursion as Each}
 use Rattle.book.specs.Meaning.{Meaning, free}
 use Rattle.valuation.specs.declared.price.Price.{Price}
 use Rattle.valuation.specs.Most.{most_units}
@@ -49,7 +49,7 @@ value_of_all worth ps o picks = total (map (λ x. worth_in worth ps o x.security
 -- each security is below those after it
 abbrev pub Rising : List Pick → Type 0
 Rising [] = Unit {0}
-Rising (x ∷ xs) = All (λ y. x.security < y.security) xs × Rising xs
+Rising (x ∷ xs) = Each (λ y. x.security < y.security) xs × Rising xs
 
 -- the securities that are not passed over, by rising number, from the record at place k on
 unfoldable pub takeable_from : Meaning → (ℕ → ℕ → ℕ → ℕ) → Order → List ℕ → ℕ → List Price → List ℕ
@@ -62,13 +62,13 @@ takeable m worth ps o held = takeable_from m worth o held 0 ps
 
 -- before the last pick the most is taken of each security, and with one unit less of the last one a need is not covered
 pub record Ends (m : Meaning) (worth : ℕ → ℕ → ℕ → ℕ) (ps : List Price) (o : Order) (held : List ℕ) (need : ℕ) (before : List Pick) (last : Pick) : Type 0 where
-  pub whole : All (λ x. x.quantity ≡ most_in m worth ps o held x.security) before
+  pub whole : Each (λ x. x.quantity ≡ most_in m worth ps o held x.security) before
   pub tight : value_of_all worth ps o before + worth_in worth ps o last.security (last.quantity - 1) < need
 
 -- picks that cover the need of an order: each may be taken, no security that could be taken is left out between them, and no unit of the last one can be spared
 pub record Covers (m : Meaning) (worth : ℕ → ℕ → ℕ → ℕ) (ps : List Price) (o : Order) (held : List ℕ) (picks : List Pick) : Type 0 where
   pub rising : Rising picks
-  pub allowed : All (λ x. Allowed m worth ps o held x.security x.quantity) picks
+  pub allowed : Each (λ x. Allowed m worth ps o held x.security x.quantity) picks
   pub few : length picks ≤ most_picks
   pub enough : o.need ≤ value_of_all worth ps o picks
   pub in_turn : map (λ x. x.security) picks ≡ take (length picks) (takeable m worth ps o held)

@@ -1,6 +1,6 @@
 -- What an accepted settle, mark and substitute achieve.
 use Rattle.std.proofs.Common.{◌≡◌, ℕ, ◌+◌, ◌-◌, ◌<◌, ◌≤◌, true, false, cond, not, eqb, ltb, List, [], ◌∷◌, ◌++◌, reverse, length, Some, None, Ok, Option, unwrap_or, sym, refl, ap, ◌∙◌, subst, inl, arith}
-use Rattle.std.specs.List.{AllByRecursion as All}
+use Rattle.std.specs.List.{AllByRecursion as Each}
 use Rattle.std.proofs.lemmas.Bool.{and_parts, and_from, both_ways, eq-eqb, leb-true, le-leb, ltb-true, ltb-false}
 use Rattle.book.specs.Lists.{run}
 use Rattle.book.specs.Meaning.{Meaning}
@@ -85,7 +85,7 @@ module _ (ps : List Price) (d : Deal) (m : Meaning) (need : ℕ) (held' : List �
       let n = and_parts (not (record_of ps x.security).excluded) _ c.1 in
       quantity_priced ps d x.security x.quantity (and_from _ _ i.0 (and_from _ _ n.1 (le-leb _ _ a.bounded)))
 
-  basket_worth : (picks : List Pick) → All (λ x. Allowed m (worth_by d.weighing) ps (order_for d need) held' x.security x.quantity) picks
+  basket_worth : (picks : List Pick) → Each (λ x. Allowed m (worth_by d.weighing) ps (order_for d need) held' x.security x.quantity) picks
       → total (λ x. quantityWorth ps d x.security x.quantity) picks ≡ value_of_all (worth_by d.weighing) ps (order_for d need) picks
   basket_worth [] a = refl
   basket_worth (x ∷ xs) a = omega (arith, allowed_worth x a.0, basket_worth xs a.1)
@@ -173,7 +173,7 @@ module _ (o : Opening) (s : State) (h : List Entry) (k : Kept o s h) (ps : List 
   moving_book [] = refl
   moving_book (x ∷ xs) = refl
 
-  moving_spent : (xs : List Slip) (m : Meaning) (value : ℕ) → All (Spent ps d m value) (lines_by xs s.lines) → All (Spent ps d m value) (carried s (moving s ps n xs)).lines
+  moving_spent : (xs : List Slip) (m : Meaning) (value : ℕ) → Each (Spent ps d m value) (lines_by xs s.lines) → Each (Spent ps d m value) (carried s (moving s ps n xs)).lines
   unfolding carried
   moving_spent [] m value a = a
   moving_spent (x ∷ xs) m value a = parted_all (over ps n) s.deals (lines_by (x ∷ xs) s.lines) (Spent ps d m value) (λ l z. z) (λ l z. z) a
@@ -206,15 +206,15 @@ module _ (o : Opening) (s : State) (h : List Entry) (k : Kept o s h) (ps : List 
   cutting_marks : target_of d < markValue s ps n → Marks ps n s (moving s ps n cutting) (carried s (moving s ps n cutting))
   cutting_marks more =
       let fair = marks.fair_cuts o s h k ps 0 n there listed (omega (arith, more)) in
-      let some : All (λ l. 1 ≤ l.quantity) s.lines = all_to _ _ (λ l p. p.quantity_some) s.lines k.lines.placed in
+      let some : Each (λ l. 1 ≤ l.quantity) s.lines = all_to _ _ (λ l p. p.quantity_some) s.lines k.lines.placed in
       let all = cuts_spent ps d s.book (markValue s ps n) (reverse s.lines) s.lines (distinct_reverse return_number s.lines k.lines.rise) (marks.met o s h k ps 0 n there listed)
       (all_reverse return_number _ s.lines some) k.lines.rise refl (omega (arith, more)) (all_to _ _ (λ l t. inl t) s.lines (has_reverse return_number s.lines)) in
       record {
         covered = λ _. omega (arith, fair.worth, moving_worth cutting);
         unmoved = λ t. absurd (both_ways _ (moving_quiet cutting) t);
         uncovered = λ t. absurd (both_ways _ (moving_quiet cutting) t);
-        spent = λ _. subst (λ m. All (Spent ps d m (worthOn ps d (carried s (moving s ps n cutting)).lines)) (carried s (moving s ps n cutting)).lines) (sym (moving_book cutting))
-            (subst (λ v. All (Spent ps d (run s.book (movements_of cutting)) v) (carried s (moving s ps n cutting)).lines) (sym (moving_worth cutting)) (moving_spent cutting (run s.book (movements_of cutting)) (worthOn ps d (lines_by cutting s.lines)) all));
+        spent = λ _. subst (λ m. Each (Spent ps d m (worthOn ps d (carried s (moving s ps n cutting)).lines)) (carried s (moving s ps n cutting)).lines) (sym (moving_book cutting))
+            (subst (λ v. Each (Spent ps d (run s.book (movements_of cutting)) v) (carried s (moving s ps n cutting)).lines) (sym (moving_worth cutting)) (moving_spent cutting (run s.book (movements_of cutting)) (worthOn ps d (lines_by cutting s.lines)) all));
       }
 
   still_marks : target_of d ≤ markValue s ps n → markValue s ps n ≤ target_of d → Marks ps n s (moving s ps n []) (carried s (moving s ps n []))

@@ -1,6 +1,6 @@
 -- A deal that comes, with its cash.
 use Rattle.std.proofs.Common.{◌≡◌, ℕ, ◌+◌, ◌*◌, ◌<◌, true, false, cond, eqb, List, [], ◌∷◌, ◌++◌, Ok, sym, refl, ap, ◌∙◌, subst, inl, inr, arith}
-use Rattle.std.specs.List.{AllByRecursion as All}
+use Rattle.std.specs.List.{AllByRecursion as Each}
 use Rattle.std.proofs.lemmas.Bool.{cases_eq, both_ways, eq-eqb, ne_eqb}
 use Rattle.std.proofs.lemmas.Bool.Decides.{nat_tests}
 use Rattle.book.specs.Lists.{run, rehearsed}
@@ -41,7 +41,7 @@ module _ (o : Opening) (m : Meaning) (date next : ℕ) (ds : List Deal) (ls afte
   abbrev es : List Deal
   es = ds ++ (deal_for next t ∷ [])
 
-  old : All (λ d. d.number < next) ds
+  old : Each (λ d. d.number < next) ds
   old = all_to _ _ (λ d r. r.number_below) ds k.ranged
 
   unseen : Unseen o next h
@@ -83,7 +83,7 @@ module _ (o : Opening) (m : Meaning) (date next : ℕ) (ds : List Deal) (ls afte
         date_most = k.date_most;
         next_some = omega (arith, k.next_some);
         rise = ordered_push number ds (deal_for next t) k.rise old;
-        ranged = subst (λ x. All (Ranged x (next + 1) date) es) (sym (run_accounts m (movements_of e.slips)))
+        ranged = subst (λ x. Each (Ranged x (next + 1) date) es) (sym (run_accounts m (movements_of e.slips)))
             (all_append _ ds (deal_for next t ∷ [])
             (all_to _ _ (λ d r. record { number_some = r.number_some; number_below = omega (arith, r.number_below); giver = r.giver; taker = r.taker; differ = r.differ; margin = r.margin; sought_some = r.sought_some; sought_most = r.sought_most; rate = r.rate; cash = r.cash; whole = r.whole; residue = r.residue }) ds k.ranged)
             (in_range, tt));

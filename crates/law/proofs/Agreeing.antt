@@ -1,6 +1,6 @@
 -- The law, from what the induction carries.
 use Rattle.std.proofs.Common.{◌≡◌, ℕ, ◌+◌, ◌*◌, ◌/◌, ◌%◌, ◌<◌, ◌≤◌, Bool, true, false, cond, ◌&&◌, eqb, List, [], ◌∷◌, sym, refl, ap, ◌∙◌, subst, arith}
-use Rattle.std.specs.List.{AllByRecursion as All}
+use Rattle.std.specs.List.{AllByRecursion as Each}
 use Rattle.std.proofs.lemmas.Bool.{eq-eqb, ne_eqb, eqb-true, both_ways}
 use Rattle.memory.specs.declared.row.Deal.{Deal}
 use Rattle.memory.specs.declared.row.Line.{Line}
@@ -20,7 +20,7 @@ use Rattle.law.proofs.Kept.{parts_for, cash_over, Kept}
 
 -- ── no number twice ──
 
-absent : (n : ℕ) (xs : List ℕ) → count n xs ≡ 0 → All (λ y. n ≡ y → ⊥) xs
+absent : (n : ℕ) (xs : List ℕ) → count n xs ≡ 0 → Each (λ y. n ≡ y → ⊥) xs
 absent n [] h = tt
 absent n (x ∷ xs) h =
     ((λ e. let z : eqb x n ≡ true = eq-eqb x n (sym e) in let w : ⊥ = omega (arith, h, ap (λ b. only b 1) z) in w), absent n xs (omega (arith, h)))
@@ -70,8 +70,8 @@ module _ (test : Deal → Bool) where
       let alone = has_none number d.number ds (all_to _ _ (λ x l e. let z : ⊥ = omega (arith, l, e) in z) ds h.0) in
       omega (arith, one_deal d ds alone ls, by_deals ds h.1 ls)
 
-  pub over_deals : (ds : List Deal) (ls : List Line) → Ordered number ds → All (λ l. has_deal l.deal ds ≡ true) ls
-      → All (λ d. parts_for d.number ls ≡ d.cash) ds → over ds test part_of ls ≡ cash_over test ds
+  pub over_deals : (ds : List Deal) (ls : List Line) → Ordered number ds → Each (λ l. has_deal l.deal ds ≡ true) ls
+      → Each (λ d. parts_for d.number ls ≡ d.cash) ds → over ds test part_of ls ≡ cash_over test ds
   over_deals ds ls h on parts =
       total_same _ (λ l. only (test (deal_of l.deal ds)) l.part) (standing-part ds) (λ l t. ap (λ b. only (b && test (deal_of l.deal ds)) l.part) (sym t)) ls on
       ∙ by_deals ds h ls
@@ -86,8 +86,8 @@ quotient Usd whole residue all e l = (omega arith, omega arith)
 
 pub agrees : (o : Opening) (s : State) (h : List Entry) → Kept o s h → AgreeBy o s h
 agrees o s h k =
-    let on : All (λ l. has_deal l.deal s.deals ≡ true) s.lines = all_to _ _ (λ l p. p.stands) s.lines k.lines.placed in
-    let parts : All (λ d. parts_for d.number s.lines ≡ d.cash) s.deals = all_to _ _ (λ d p. p.parts) s.deals k.deals.says in
+    let on : Each (λ l. has_deal l.deal s.deals ≡ true) s.lines = all_to _ _ (λ l p. p.stands) s.lines k.lines.placed in
+    let parts : Each (λ d. parts_for d.number s.lines ≡ d.cash) s.deals = all_to _ _ (λ d p. p.parts) s.deals k.deals.says in
     record {
       lines = k.lines.balance;
       return_numbers_apart = apart (return_numbers h) k.lines.once;

@@ -1,6 +1,6 @@
 -- Slips of cash: they fit, they move no line, and what they come to.
 use Rattle.std.proofs.Common.{◌≡◌, ℕ, ◌<◌, Bool, cond, ltb, List, [], ◌∷◌, ◌++◌, sym, refl, ap, ◌∙◌, subst, arith}
-use Rattle.std.specs.List.{AllByRecursion as All}
+use Rattle.std.specs.List.{AllByRecursion as Each}
 use Rattle.std.proofs.lemmas.Bool.{ltb-false}
 use Rattle.memory.specs.declared.row.Deal.{Deal}
 use Rattle.memory.specs.declared.row.Kind.{Kind}
@@ -49,5 +49,5 @@ module _ (kind : Kind) (d : Deal) (n from to amount : ℕ) where
       by_test (ltb 0 amount) (λ t. total f (cond t (cashSlip ∷ []) []) ≡ total g (cond t (cashSlip ∷ []) []))
       (λ t. omega (arith, e)) (λ t. refl)
 
-  pub cash_all : (P : Slip → Type 0) → P cashSlip → All P (cash_slips kind d n from to amount)
-  cash_all P k = by_test (ltb 0 amount) (λ b. All P (cond b (cashSlip ∷ []) [])) (λ e. (k, tt)) (λ e. tt)
+  pub cash_all : (P : Slip → Type 0) → P cashSlip → Each P (cash_slips kind d n from to amount)
+  cash_all P k = by_test (ltb 0 amount) (λ b. Each P (cond b (cashSlip ∷ []) [])) (λ e. (k, tt)) (λ e. tt)

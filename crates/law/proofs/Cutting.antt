@@ -1,7 +1,7 @@
 -- The slips of a mark that sends stock back: they fit, and the deal stays worth its target.
 use Rattle.std.proofs.Common.{◌≡◌, ℕ, ◌+◌, ◌-◌, ◌<◌, ◌≤◌, min, Bool, true, false, cond, eqb, ltb, List, [], ◌∷◌, ◌++◌, reverse, sym, refl, ap, ◌∙◌, subst, inl, inr, arith}
 use mathlib.Core.List.{reverse-cons}
-use Rattle.std.specs.List.{AllByRecursion as All}
+use Rattle.std.specs.List.{AllByRecursion as Each}
 use Rattle.std.proofs.lemmas.Bool.{and_parts, ltb-true, leb-true, eqb-true, eq-eqb, ne_eqb, cases_Bool, le-leb}
 use Rattle.book.specs.Meaning.{Meaning, free}
 use Rattle.book.specs.Moving.{moved}
@@ -33,15 +33,15 @@ module _ {X : Type 0} (key : X → ℕ) where
   -- no number twice
   abbrev pub Distinct : List X → Type 0
   Distinct [] = Unit {0}
-  Distinct (x ∷ xs) = All (λ y. key x ≡ key y → ⊥) xs × Distinct xs
+  Distinct (x ∷ xs) = Each (λ y. key x ≡ key y → ⊥) xs × Distinct xs
 
-  distinct_push : (xs : List X) (x : X) → Distinct xs → All (λ y. key y ≡ key x → ⊥) xs → Distinct (xs ++ (x ∷ []))
+  distinct_push : (xs : List X) (x : X) → Distinct xs → Each (λ y. key y ≡ key x → ⊥) xs → Distinct (xs ++ (x ∷ []))
   distinct_push [] x d a = (tt, tt)
   distinct_push (y ∷ xs) x d a = (all_append _ xs (x ∷ []) d.0 (a.0, tt), distinct_push xs x d.1 a.1)
 
-  pub all_reverse : (P : X → Type 0) (xs : List X) → All P xs → All P (reverse xs)
+  pub all_reverse : (P : X → Type 0) (xs : List X) → Each P xs → Each P (reverse xs)
   all_reverse P [] a = tt
-  all_reverse P (x ∷ xs) a = subst (All P) (sym (reverse-cons x xs)) (all_append P (reverse xs) (x ∷ []) (all_reverse P xs a.1) (a.0, tt))
+  all_reverse P (x ∷ xs) a = subst (Each P) (sym (reverse-cons x xs)) (all_append P (reverse xs) (x ∷ []) (all_reverse P xs a.1) (a.0, tt))
 
   pub distinct_reverse : (xs : List X) → Ordered key xs → Distinct (reverse xs)
   distinct_reverse [] h = tt
@@ -50,7 +50,7 @@ module _ {X : Type 0} (key : X → ℕ) where
       (distinct_push (reverse xs) x (distinct_reverse xs h.1) (all_reverse _ xs (all_to _ _ (λ y l e. let z : ⊥ = omega (arith, l, e) in z) xs h.0)))
 
   -- each row of the list is found by its number
-  pub found_each : (z : X) (xs : List X) → Ordered key xs → All (λ x. (has key (key x) xs ≡ true) × (found key z (key x) xs ≡ x)) xs
+  pub found_each : (z : X) (xs : List X) → Ordered key xs → Each (λ x. (has key (key x) xs ≡ true) × (found key z (key x) xs ≡ x)) xs
   found_each z [] h = tt
   found_each z (x ∷ xs) h =
       let t : eqb (key x) (key x) ≡ true = eq-eqb (key x) (key x) refl in (
@@ -61,8 +61,8 @@ module _ {X : Type 0} (key : X → ℕ) where
       )
 
   -- rows of the same number in the place of a row leave the others where they are
-  module _ (g : X → List X) (same : (x : X) → All (λ y. key y ≡ key x) (g x)) (m n : ℕ) (ne : m ≡ n → ⊥) where
-    past : (ys xs : List X) → All (λ y. key y ≡ m) ys → (has key n (ys ++ xs) ≡ has key n xs) × ((z : X) → found key z n (ys ++ xs) ≡ found key z n xs)
+  module _ (g : X → List X) (same : (x : X) → Each (λ y. key y ≡ key x) (g x)) (m n : ℕ) (ne : m ≡ n → ⊥) where
+    past : (ys xs : List X) → Each (λ y. key y ≡ m) ys → (has key n (ys ++ xs) ≡ has key n xs) × ((z : X) → found key z n (ys ++ xs) ≡ found key z n xs)
     past [] xs a = (refl, λ z. refl)
     past (y ∷ ys) xs a =
         let f : eqb (key y) n ≡ false = ne_eqb _ _ (λ e. ne (sym a.0 ∙ e)) in
@@ -80,9 +80,9 @@ module _ {X : Type 0} (key : X → ℕ) where
         (p.0 ∙ ap (λ b. cond b true (has key n xs)) (sym f), λ z. p.1 z ∙ ap (λ b. cond b x (found key z n xs)) (sym f)))
         (λ e. let p = other_rows xs in (ap (λ b. cond (eqb (key x) n) true b) p.0, λ z. ap (λ b. cond (eqb (key x) n) x b) (p.1 z)))
 
-lessened_same : (q : ℕ) (l : Line) → All (λ y. y.number ≡ l.number) (lessened q l)
+lessened_same : (q : ℕ) (l : Line) → Each (λ y. y.number ≡ l.number) (lessened q l)
 lessened_same q l =
-    by_test (eqb l.quantity q) (λ b. All (λ y. y.number ≡ l.number) (cond b [] (less_quantity q l ∷ []))) (λ e. tt) (λ e. (refl, tt))
+    by_test (eqb l.quantity q) (λ b. Each (λ y. y.number ≡ l.number) (cond b [] (less_quantity q l ∷ []))) (λ e. tt) (λ e. (refl, tt))
 
 -- ── one cut ──
 
@@ -181,12 +181,12 @@ module _ (ps : List Price) (d : Deal) where
   -- the lines in turn
   pub record Fair (resources : ℕ) (ds : List Deal) (next : ℕ) (cur : List Line) (xs : List Slip) : Type 0 where
     pub fits : Fitting resources ds next xs cur
-    pub stocks : All Stock xs
-    pub one_deal : All (λ x. x.deal ≡ d.number) xs
+    pub stocks : Each Stock xs
+    pub one_deal : Each (λ x. x.deal ≡ d.number) xs
     pub worth : target_of d ≤ worthOn ps d (lines_by xs cur)
 
   module _ (resources : ℕ) (ds : List Deal) (there : has_deal d.number ds ≡ true) (same : deal_of d.number ds ≡ d) where
-    pub cuts_fair : (m : Meaning) (value next : ℕ) (rest cur : List Line) → Distinct return_number rest → All (Met cur) rest
+    pub cuts_fair : (m : Meaning) (value next : ℕ) (rest cur : List Line) → Distinct return_number rest → Each (Met cur) rest
         → worthOn ps d cur ≡ value → target_of d ≤ value → Fair resources ds next cur (cutsFrom ps d m value rest)
     unfolding cutsFrom lines_by
     cuts_fair m value next [] cur apart met e enough = record { fits = tt; stocks = tt; one_deal = tt; worth = omega (arith, e, enough) }

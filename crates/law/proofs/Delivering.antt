@@ -1,6 +1,6 @@
 -- The slips of a basket.
 use Rattle.std.proofs.Common.{◌≡◌, ℕ, ◌+◌, ◌<◌, ◌≤◌, true, false, eqb, List, [], ◌∷◌, ◌++◌, sym, refl, ap, arith}
-use Rattle.std.specs.List.{AllByRecursion as All}
+use Rattle.std.specs.List.{AllByRecursion as Each}
 use Rattle.gathering.specs.declared.order.Pick.{Pick}
 use Rattle.memory.specs.declared.row.Deal.{Deal}
 use Rattle.memory.specs.declared.row.Kind.{Kind}
@@ -23,7 +23,7 @@ pub record Picked (resources : ℕ) (x : Pick) : Type 0 where
 
 module _ (kind : Kind) (d : Deal) where
   pub deliveries_fit : (resources : ℕ) (ds : List Deal) → has_deal d.number ds ≡ true → deal_of d.number ds ≡ d
-      → (next : ℕ) (picks : List Pick) (ls : List Line) → All (Picked resources) picks → Fitting resources ds next (deliveries kind d next picks) ls
+      → (next : ℕ) (picks : List Pick) (ls : List Line) → Each (Picked resources) picks → Fitting resources ds next (deliveries kind d next picks) ls
   unfolding deliveries
   deliveries_fit resources ds there is next [] ls a = tt
   deliveries_fit resources ds there is next (x ∷ xs) ls a = (
@@ -31,12 +31,12 @@ module _ (kind : Kind) (d : Deal) where
     deliveries_fit resources ds there is (next + 1) xs _ a.1,
   )
 
-  pub deliveries_stock : eqb (kind_number kind) 5 ≡ false → (next : ℕ) (picks : List Pick) → All Stock (deliveries kind d next picks)
+  pub deliveries_stock : eqb (kind_number kind) 5 ≡ false → (next : ℕ) (picks : List Pick) → Each Stock (deliveries kind d next picks)
   unfolding deliveries
   deliveries_stock t next [] = tt
   deliveries_stock t next (x ∷ xs) = (record { no_cash = refl; no_interest = t }, deliveries_stock t (next + 1) xs)
 
-  pub deliveries_deal : (next : ℕ) (picks : List Pick) → All (λ x. x.deal ≡ d.number) (deliveries kind d next picks)
+  pub deliveries_deal : (next : ℕ) (picks : List Pick) → Each (λ x. x.deal ≡ d.number) (deliveries kind d next picks)
   unfolding deliveries
   deliveries_deal next [] = tt
   deliveries_deal next (x ∷ xs) = (refl, deliveries_deal (next + 1) xs)

@@ -1,6 +1,6 @@
 -- A deal that is paid its interest and goes.
 use Rattle.std.proofs.Common.{◌≡◌, ℕ, ◌+◌, ◌*◌, ◌/◌, ◌<◌, Bool, true, false, cond, List, [], ◌∷◌, ◌++◌, Ok, sym, refl, ap, ◌∙◌, subst, inl, inr, arith}
-use Rattle.std.specs.List.{AllByRecursion as All}
+use Rattle.std.specs.List.{AllByRecursion as Each}
 use Rattle.std.proofs.lemmas.Bool.{cases_eq, both_ways, eq-eqb}
 use Rattle.book.specs.Lists.{run, rehearsed}
 use Rattle.book.specs.Meaning.{Meaning}
@@ -84,7 +84,7 @@ module _ (o : Opening) (m : Meaning) (date next : ℕ) (ds : List Deal) (ls : Li
         date_most = k.date_most;
         next_some = k.next_some;
         rise = ordered_replaced number n (λ _. []) (λ d. record { rise = tt; same = tt }) ds k.rise;
-        ranged = subst (λ x. All (Ranged x next date) es) (sym (run_accounts m (movements_of e.slips)))
+        ranged = subst (λ x. Each (Ranged x next date) es) (sym (run_accounts m (movements_of e.slips)))
             (all_changed number (Ranged m.accounts next date) (Ranged m.accounts next date) no_deal n (λ _. []) ds there k.rise k.ranged (λ d r ne. r) (λ d r is. tt));
         says = all_changed number (Says o h ls) (Says o (e ∷ h) ls) no_deal n (λ _. []) ds there k.rise k.says
             (λ d s ne. says_quiet o h e ls ls d (quiet d.number (λ i. ne (sym i))) still refl s)

@@ -1,6 +1,6 @@
 -- Every deal some days later.
 use Rattle.std.proofs.Common.{◌≡◌, ℕ, ◌+◌, ◌-◌, ◌*◌, ◌≤◌, Bool, true, cond, List, [], ◌∷◌, ◌++◌, map, Some, None, sym, refl, ap, ◌∙◌, subst, arith}
-use Rattle.std.specs.List.{AllByRecursion as All}
+use Rattle.std.specs.List.{AllByRecursion as Each}
 use Rattle.std.proofs.lemmas.Bool.Decides.{nat_tests}
 use Rattle.book.specs.Meaning.{Meaning}
 use Rattle.memory.specs.declared.row.Deal.{Deal}
@@ -38,7 +38,7 @@ module _ (o : Opening) (m : Meaning) (date next days new : ℕ) (ds : List Deal)
   grows d = with_interest (accrued d.whole d.residue d.cash d.rate days (base_of d.currency)) d
 
   -- each deal by itself
-  same_deals : (xs : List Deal) → All (Ranged m.accounts next date) xs → map (grownBy days) xs ≡ map grows xs
+  same_deals : (xs : List Deal) → Each (Ranged m.accounts next date) xs → map (grownBy days) xs ≡ map grows xs
   same_deals [] r = refl
   same_deals (x ∷ xs) r =
       ap (λ y. y ∷ map (grownBy days) xs) (grown_is m.accounts next date days x r.0 k.date_most few)
@@ -71,7 +71,7 @@ module _ (o : Opening) (m : Meaning) (date next days new : ℕ) (ds : List Deal)
   cash_c : (test : Deal → Bool) → ((d : Deal) → test (grows d) ≡ test d) → cash_over test (map grows ds) ≡ cash_over test ds
   cash_c test same = total_map (λ d. only (test d) d.cash) grows ds ∙ total_same (λ d. Unit {0}) _ _ (λ d u. ap (λ b. only b d.cash) (same d)) ds (all_unit ds)
     where
-      all_unit : (xs : List Deal) → All (λ d. Unit {0}) xs
+      all_unit : (xs : List Deal) → Each (λ d. Unit {0}) xs
       all_unit [] = tt
       all_unit (x ∷ xs) = (tt, all_unit xs)
 

@@ -1,6 +1,6 @@
 -- What one entry more does to what a history says of a deal.
 use Rattle.std.proofs.Common.{◌≡◌, ℕ, ◌+◌, ◌*◌, Bool, true, false, cond, eqb, List, ◌∷◌, ap, ◌∙◌, arith}
-use Rattle.std.specs.List.{AllByRecursion as All}
+use Rattle.std.specs.List.{AllByRecursion as Each}
 use Rattle.std.proofs.lemmas.Bool.{ne_eqb}
 use Rattle.std.proofs.lemmas.Bool.Decides.{nat_tests}
 use Rattle.memory.specs.declared.row.Slip.{Slip}
@@ -27,10 +27,10 @@ pub record Stock (x : Slip) : Type 0 where
   pub no_cash : is_cash x ≡ false
   pub no_interest : is_interest x ≡ false
 
-pub stock_back : (n : ℕ) (xs : List Slip) → All Stock xs → total (back_on n) xs ≡ 0
+pub stock_back : (n : ℕ) (xs : List Slip) → Each Stock xs → total (back_on n) xs ≡ 0
 stock_back n xs = total_zero Stock (back_on n) (λ x k. let c = k.no_cash in grind (arith, nat_tests, c)) xs
 
-pub stock_interest : (n : ℕ) (xs : List Slip) → All Stock xs → total (interest_of n) xs ≡ 0
+pub stock_interest : (n : ℕ) (xs : List Slip) → Each Stock xs → total (interest_of n) xs ≡ 0
 stock_interest n xs = total_zero Stock (interest_of n) (λ x k. let c = k.no_interest in grind (arith, nat_tests, c)) xs
 
 module _ (n : ℕ) (e : Entry) (back : total (back_on n) e.slips ≡ 0) (interest : total (interest_of n) e.slips ≡ 0) where

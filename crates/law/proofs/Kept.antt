@@ -1,6 +1,6 @@
 -- What the induction over a past carries: the lines' half and the deals' half of the law.
 use Rattle.std.proofs.Common.{◌≡◌, ℕ, ◌+◌, ◌*◌, ◌/◌, ◌<◌, ◌≤◌, Bool, true, false, eqb, List, length}
-use Rattle.std.specs.List.{AllByRecursion as All}
+use Rattle.std.specs.List.{AllByRecursion as Each}
 use Rattle.book.specs.Meaning.{Meaning, Lawful}
 use Rattle.memory.specs.declared.row.Deal.{Deal}
 use Rattle.memory.specs.declared.row.Line.{Line}
@@ -28,7 +28,7 @@ parts_for n ls = total (λ l. only (eqb l.deal n) l.part) ls
 pub record LinesKept (o : Opening) (m : Meaning) (ds : List Deal) (next : ℕ) (ls : List Line) (h : List Entry) : Type 0 where
   pub next_some : 1 ≤ next
   pub rise : Ordered return_number ls
-  pub placed : All (Placed m.resources ds next) ls
+  pub placed : Each (Placed m.resources ds next) ls
   pub balance : (n : ℕ) → delivered n h ≡ sent_back n h + standing n ls
   pub once : (n : ℕ) → count n (return_numbers h) ≤ 1
   pub fresh : (n : ℕ) → next ≤ n → count n (return_numbers h) ≡ 0
@@ -44,7 +44,7 @@ pub record Between (next : ℕ) (h : List Entry) (x : Slip) : Type 0 where
   pub back : is_back x ≡ true → x.to ≡ (pair_of x.deal h).giver
 
 abbrev pub SlipsKept : ℕ → List Entry → List Entry → Type 0
-SlipsKept next h es = All (λ e. All (Between next h) e.slips) es
+SlipsKept next h es = Each (λ e. Each (Between next h) e.slips) es
 
 -- ── deals ──
 
@@ -84,8 +84,8 @@ pub record DealsKept (o : Opening) (m : Meaning) (date next : ℕ) (ds : List De
   pub date_most : date ≤ 65_535
   pub next_some : 1 ≤ next
   pub rise : Ordered number ds
-  pub ranged : All (Ranged m.accounts next date) ds
-  pub says : All (Says o h ls) ds
+  pub ranged : Each (Ranged m.accounts next date) ds
+  pub says : Each (Says o h ls) ds
   pub once : (n : ℕ) → count n (deal_numbers h) ≤ 1
   pub fresh : (n : ℕ) → next ≤ n → Unseen o n h
   pub stand : (n : ℕ) → has_deal n ds ≡ stood n h

@@ -1,6 +1,6 @@
 -- The lines' half of the law, over slips that fit: one argument for every call.
 use Rattle.std.proofs.Common.{◌≡◌, ℕ, ◌+◌, Bool, true, cond, ◌&&◌, eqb, List, [], ◌∷◌, Ok, sym, refl, ap, subst, inl, inr, arith}
-use Rattle.std.specs.List.{AllByRecursion as All}
+use Rattle.std.specs.List.{AllByRecursion as Each}
 use Rattle.std.proofs.lemmas.Bool.{cases_lt}
 use Rattle.book.specs.Lists.{run, rehearsed}
 use Rattle.book.specs.Meaning.{Meaning}
@@ -31,7 +31,7 @@ pub record Alike (d e : Deal) : Type 0 where
 
 -- the deals of standing lines stand on, with their parties
 abbrev pub Carried : List Deal → List Deal → List Line → Type 0
-Carried ds es ls = All (λ l. (has_deal l.deal es ≡ true) × Alike (deal_of l.deal es) (deal_of l.deal ds)) ls
+Carried ds es ls = Each (λ l. (has_deal l.deal es ≡ true) × Alike (deal_of l.deal es) (deal_of l.deal ds)) ls
 
 outs_count : (n : ℕ) (resources : ℕ) (ds : List Deal) (xs : List Slip) → count n (out_numbers xs) ≡ total (outs resources ds n) xs
 outs_count n resources ds [] = refl
@@ -46,7 +46,7 @@ module _ (o : Opening) (m : Meaning) (ds es : List Deal) (next : ℕ) (ls : List
   over_alike : (test : Deal → Bool) → ((x y : Deal) → Alike x y → test x ≡ test y) → (f : Line → ℕ) → over es test f ls ≡ over ds test f ls
   over_alike test same f = total_same _ _ _ (λ l c. ap (λ b. only b (f l)) (same _ _ c.1)) ls on
 
-  old : All (Placed m.resources es next) ls
+  old : Each (Placed m.resources es next) ls
   old = all_to _ _ (λ l p. record { some = p.0.some; below = p.0.below; stands = p.1.0; low = p.0.low; high = p.0.high; quantity_some = p.0.quantity_some; quantity_most = p.0.quantity_most }) ls
       (Rattle.law.proofs.Totals.all_both _ _ ls k.placed on)
 
@@ -55,7 +55,7 @@ module _ (o : Opening) (m : Meaning) (ds es : List Deal) (next : ℕ) (ls : List
       record {
         next_some = omega (arith, k.next_some);
         rise = parted_rise sh es _ (rise m.resources es next e.slips ls k.next_some fits old k.rise);
-        placed = subst (λ R. All (Placed R es (next + issues e.slips)) (parted sh es (lines_by e.slips ls))) (sym (run_resources m (movements_of e.slips)))
+        placed = subst (λ R. Each (Placed R es (next + issues e.slips)) (parted sh es (lines_by e.slips ls))) (sym (run_resources m (movements_of e.slips)))
             (parted_placed m.resources es _ sh es _ (placed m.resources es next e.slips ls k.next_some fits old));
         balance = λ n. omega (
           arith,

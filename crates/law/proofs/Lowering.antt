@@ -1,6 +1,6 @@
 -- A deal whose standing cash falls by what goes back.
 use Rattle.std.proofs.Common.{◌≡◌, ℕ, ◌+◌, ◌-◌, ◌/◌, ◌<◌, ◌≤◌, Bool, true, false, List, [], ◌∷◌, ◌++◌, Ok, sym, refl, ap, ◌∙◌, subst, inl, inr, arith}
-use Rattle.std.specs.List.{AllByRecursion as All}
+use Rattle.std.specs.List.{AllByRecursion as Each}
 use Rattle.std.proofs.lemmas.Bool.{cases_eq, both_ways}
 use Rattle.book.specs.Lists.{run, rehearsed}
 use Rattle.book.specs.Meaning.{Meaning}
@@ -80,7 +80,7 @@ module _ (o : Opening) (m : Meaning) (date next : ℕ) (ds : List Deal) (ls afte
         date_most = k.date_most;
         next_some = k.next_some;
         rise = ordered_replaced number n (λ d. less_cash part d ∷ []) (λ d. record { rise = (tt, tt); same = (refl, tt) }) ds k.rise;
-        ranged = subst (λ x. All (Ranged x next date) es) (sym (run_accounts m (movements_of e.slips)))
+        ranged = subst (λ x. Each (Ranged x next date) es) (sym (run_accounts m (movements_of e.slips)))
             (all_changed number (Ranged m.accounts next date) (Ranged m.accounts next date) no_deal n (λ d. less_cash part d ∷ []) ds there k.rise k.ranged (λ d r ne. r)
             (λ d r is. (record { number_some = r.number_some; number_below = r.number_below; giver = r.giver; taker = r.taker; differ = r.differ; margin = r.margin; sought_some = r.sought_some; sought_most = r.sought_most; rate = r.rate; cash = omega (arith, r.cash); whole = r.whole; residue = r.residue }, tt)));
         says = all_changed number (Says o h ls) (Says o (e ∷ h) after) no_deal n (λ d. less_cash part d ∷ []) ds there k.rise k.says

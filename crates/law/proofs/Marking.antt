@@ -1,6 +1,6 @@
 -- A deal marked, either way.
 use Rattle.std.proofs.Common.{◌≡◌, ℕ, ◌+◌, ◌-◌, ◌<◌, ◌≤◌, true, false, cond, eqb, ltb, List, [], ◌∷◌, reverse, length, Some, None, Ok, Option, sym, refl, ap, ◌∙◌, subst, arith}
-use Rattle.std.specs.List.{AllByRecursion as All}
+use Rattle.std.specs.List.{AllByRecursion as Each}
 use Rattle.std.proofs.lemmas.Bool.{ltb-true}
 use Rattle.gathering.specs.declared.order.Pick.{Pick}
 use Rattle.gathering.specs.Law.{Covers}
@@ -52,7 +52,7 @@ worth_lines ps d ls w = go ls (rw (← worth_total ps d ls) w)
 
 -- what may be taken may stand on a line
 pub picks_stand : (m : _) (worth : ℕ → ℕ → ℕ → ℕ) (ps : List Price) (order : _) (held : List ℕ) (resources : ℕ) (picks : List Pick)
-    → 3 + length ps ≡ resources → Covers m worth ps order held picks → All (Picked resources) picks
+    → 3 + length ps ≡ resources → Covers m worth ps order held picks → Each (Picked resources) picks
 picks_stand m worth ps order held resources picks e c =
     all_to _ _ (λ x a. record { low = a.low; high = omega (arith, a.listed, e); some = a.some; most = a.bounded }) picks c.allowed
 
@@ -81,7 +81,7 @@ module _ (o : Opening) (s : State) (h : List Entry) (k : Kept o s h) (ps : List 
   target_some = omega (arith, in_range.sought_some, target_enough d.weighing d.margin d.sought)
 
   -- slips of stock on this deal, after which it has a line
-  moving_kept : (xs : List Slip) → Fitting s.book.resources s.deals s.next_line xs s.lines → All Stock xs → All (λ x. x.deal ≡ n) xs → 0 < lines_on n (lines_by xs s.lines)
+  moving_kept : (xs : List Slip) → Fitting s.book.resources s.deals s.next_line xs s.lines → Each Stock xs → Each (λ x. x.deal ≡ n) xs → 0 < lines_on n (lines_by xs s.lines)
       → Passes s (moving s ps n xs) places → Kept o (carried s (moving s ps n xs)) (entry_for (mark ps places n) s (moving s ps n xs) ∷ h)
   moving_kept [] f st one some ok = nothing_moves o s h (mark ps places n) places s.phase false k ok refl
   moving_kept (x ∷ xs) f st one some ok =
@@ -102,7 +102,7 @@ module _ (o : Opening) (s : State) (h : List Entry) (k : Kept o s h) (ps : List 
       (omega (arith, t, total_ones picks, some)) ok
 
   -- the lines as the cuts meet them
-  pub met : All (Met ps d s.lines) (reverse s.lines)
+  pub met : Each (Met ps d s.lines) (reverse s.lines)
   met =
       all_reverse return_number _ s.lines
       (all_to _ _ (λ l p. record { listed = p.0.0; is = p.0.1; low = p.1.low }) s.lines

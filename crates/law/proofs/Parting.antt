@@ -1,6 +1,6 @@
 -- Lines over which cash is shared out: only their parts change, and they come to the cash.
 use Rattle.std.proofs.Common.{◌≡◌, ℕ, ◌+◌, ◌<◌, cond, eqb, List, [], ◌∷◌, map, length, sym, refl, ap, ◌∙◌, subst, arith}
-use Rattle.std.specs.List.{AllByRecursion as All}
+use Rattle.std.specs.List.{AllByRecursion as Each}
 use Rattle.std.proofs.lemmas.List.{length-map}
 use Rattle.std.proofs.lemmas.Bool.Decides.{nat_tests}
 use Rattle.memory.specs.declared.row.Deal.{Deal}
@@ -64,10 +64,10 @@ module _ (sh : Sharing) (ds : List Deal) (ls : List Line) where
       same [] = refl
       same (x ∷ xs) = omega (arith, e x, same xs)
 
-  pub parted_all : (P : Line → Type 0) → ((l : Line) → P (bare l) → P l) → ((l : Line) → P l → P (bare l)) → All P ls → All P (parted sh ds ls)
-  parted_all P back to a = from (parted sh ds ls) (subst (All P) (sym (parted_bare sh ds ls)) (all_over P P bare to ls a))
+  pub parted_all : (P : Line → Type 0) → ((l : Line) → P (bare l) → P l) → ((l : Line) → P l → P (bare l)) → Each P ls → Each P (parted sh ds ls)
+  parted_all P back to a = from (parted sh ds ls) (subst (Each P) (sym (parted_bare sh ds ls)) (all_over P P bare to ls a))
     where
-      from : (xs : List Line) → All P (map bare xs) → All P xs
+      from : (xs : List Line) → Each P (map bare xs) → Each P xs
       from [] h = tt
       from (x ∷ xs) h = (back x h.0, from xs h.1)
 
@@ -82,7 +82,7 @@ module _ (sh : Sharing) (ds : List Deal) (ls : List Line) where
   parted_length = sym (length-map (parted sh ds ls) bare) ∙ ap length (parted_bare sh ds ls) ∙ length-map ls bare
 
 pub parted_placed : (resources : ℕ) (ds : List Deal) (next : ℕ) (sh : Sharing) (es : List Deal) (ls : List Line)
-    → All (Placed resources ds next) ls → All (Placed resources ds next) (parted sh es ls)
+    → Each (Placed resources ds next) ls → Each (Placed resources ds next) (parted sh es ls)
 parted_placed resources ds next sh es ls =
     parted_all sh es ls (Placed resources ds next)
     (λ l p. record { some = p.some; below = p.below; stands = p.stands; low = p.low; high = p.high; quantity_some = p.quantity_some; quantity_most = p.quantity_most })

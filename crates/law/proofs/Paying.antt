@@ -1,6 +1,6 @@
 -- The interest of a deal paid, and the deal gone.
 use Rattle.std.proofs.Common.{◌≡◌, ℕ, ◌+◌, true, false, cond, eqb, List, [], ◌∷◌, Ok, sym, refl, ap, ◌∙◌, subst, append-nil, arith}
-use Rattle.std.specs.List.{AllByRecursion as All}
+use Rattle.std.specs.List.{AllByRecursion as Each}
 use Rattle.std.proofs.lemmas.Bool.{eq-eqb, ne_eqb, both_ways}
 use Rattle.book.specs.Lists.{run}
 use Rattle.memory.specs.declared.row.Deal.{Deal}
@@ -27,10 +27,10 @@ use Rattle.law.proofs.Verdicts.{plan_ok, Passes}
 use Rattle.law.proofs.Stepping.{entry_for, joined}
 
 -- no line is of the deal
-pub no_lines : (n : ℕ) (ls : List Line) → has_lines n ls ≡ false → All (λ l. l.deal ≡ n → ⊥) ls
+pub no_lines : (n : ℕ) (ls : List Line) → has_lines n ls ≡ false → Each (λ l. l.deal ≡ n → ⊥) ls
 no_lines n [] e = tt
 no_lines n (l ∷ ls) e =
-    by_test (eqb l.deal n) (λ b. eqb l.deal n ≡ b → cond b true (has_lines n ls) ≡ false → All (λ l. l.deal ≡ n → ⊥) (l ∷ ls))
+    by_test (eqb l.deal n) (λ b. eqb l.deal n ≡ b → cond b true (has_lines n ls) ≡ false → Each (λ l. l.deal ≡ n → ⊥) (l ∷ ls))
     (λ t _ f. absurd (both_ways true f refl))
     (λ t _ f. ((λ i. both_ways (eqb l.deal n) t (eq-eqb _ _ i)), no_lines n ls f)) refl e
 
@@ -44,7 +44,7 @@ module _ (o : Opening) (s : State) (h : List Entry) (k : Kept o s h) (n : ℕ) (
   abbrev es : List Deal
   es = replaced number n (λ _. []) s.deals
 
-  off : All (λ l. l.deal ≡ n → ⊥) s.lines
+  off : Each (λ l. l.deal ≡ n → ⊥) s.lines
   off = no_lines n s.lines free
 
   is_n : d.number ≡ n

@@ -1,6 +1,6 @@
 -- The lines after slips that fit: each as it should be, by rising number, and their parts.
 use Rattle.std.proofs.Common.{◌≡◌, ℕ, ◌+◌, ◌<◌, ◌≤◌, true, false, cond, eqb, List, [], ◌∷◌, refl, ◌∙◌, arith}
-use Rattle.std.specs.List.{AllByRecursion as All}
+use Rattle.std.specs.List.{AllByRecursion as Each}
 use Rattle.std.proofs.lemmas.Bool.Decides.{nat_tests}
 use Rattle.memory.specs.declared.row.Deal.{Deal}
 use Rattle.memory.specs.declared.row.Line.{Line}
@@ -34,23 +34,23 @@ placed_later resources ds next more l e p =
 
 module _ (resources : ℕ) (ds : List Deal) where
   placed_step : (next : ℕ) (ls : List Line) (σ : Sense) (x : Slip) → 1 ≤ next → Fit resources ds next ls σ x
-      → All (Placed resources ds next) ls → All (Placed resources ds (next + issuing σ)) (line_by_sense σ x ls)
+      → Each (Placed resources ds next) ls → Each (Placed resources ds (next + issuing σ)) (line_by_sense σ x ls)
   placed_step next ls Out x o k a =
       all_append _ ls (new_line x ∷ [])
       (all_to _ _ (λ l p. placed_later resources ds next (next + 1) l (omega arith) p) ls a)
       (record { some = omega (arith, o, k.numbered); below = omega (arith, k.numbered); stands = k.stands; low = k.low; high = k.high; quantity_some = k.some; quantity_most = k.most }, tt)
   placed_step next ls Back x o k a =
       let l : Line = line_of x.number ls in
-      let b : All (Placed resources ds (next + 0)) ls = all_to _ _ (λ l p. placed_later resources ds next (next + 0) l (omega arith) p) ls a in
+      let b : Each (Placed resources ds (next + 0)) ls = all_to _ _ (λ l p. placed_later resources ds next (next + 0) l (omega arith) p) ls a in
       let p : Placed resources ds (next + 0) l = found_all return_number _ no_line x.number ls k.listed b in
       all_replaced return_number x.number (lessened x.amount) _ no_line ls k.listed b
-      (by_test (eqb l.quantity x.amount) (λ t. All (Placed resources ds (next + 0)) (cond t [] (less_quantity x.amount l ∷ [])))
+      (by_test (eqb l.quantity x.amount) (λ t. Each (Placed resources ds (next + 0)) (cond t [] (less_quantity x.amount l ∷ [])))
       (λ t. tt)
       (λ t. (record { some = p.some; below = p.below; stands = p.stands; low = p.low; high = p.high; quantity_some = grind (arith, nat_tests, t, k.enough); quantity_most = omega (arith, p.quantity_most) }, tt)))
   placed_step next ls Cash x o k a = all_to _ _ (λ l p. placed_later resources ds next (next + 0) l (omega arith) p) ls a
 
   pub placed : (next : ℕ) (xs : List Slip) (ls : List Line) → 1 ≤ next → Fitting resources ds next xs ls
-      → All (Placed resources ds next) ls → All (Placed resources ds (next + issues xs)) (lines_by xs ls)
+      → Each (Placed resources ds next) ls → Each (Placed resources ds (next + issues xs)) (lines_by xs ls)
   unfolding lines_by issues
   placed next [] ls o k a = all_to _ _ (λ l p. placed_later resources ds next (next + 0) l (omega arith) p) ls a
   placed next (x ∷ xs) ls o k a =
@@ -66,13 +66,13 @@ module _ (resources : ℕ) (ds : List Deal) where
       (λ t. record { rise = (tt, tt); same = (refl, tt) })
 
   rise_step : (next : ℕ) (ls : List Line) (σ : Sense) (x : Slip) → Fit resources ds next ls σ x
-      → All (Placed resources ds next) ls → Ordered return_number ls → Ordered return_number (line_by_sense σ x ls)
+      → Each (Placed resources ds next) ls → Ordered return_number ls → Ordered return_number (line_by_sense σ x ls)
   rise_step next ls Out x k a h = ordered_push return_number ls (new_line x) h (all_to _ _ (λ l p. omega (arith, p.below, k.numbered)) ls a)
   rise_step next ls Back x k a h = ordered_replaced return_number x.number (lessened x.amount) (lessened_inside x.amount) ls h
   rise_step next ls Cash x k a h = h
 
   pub rise : (next : ℕ) (xs : List Slip) (ls : List Line) → 1 ≤ next → Fitting resources ds next xs ls
-      → All (Placed resources ds next) ls → Ordered return_number ls → Ordered return_number (lines_by xs ls)
+      → Each (Placed resources ds next) ls → Ordered return_number ls → Ordered return_number (lines_by xs ls)
   unfolding lines_by
   rise next [] ls o k a h = h
   rise next (x ∷ xs) ls o k a h =
@@ -98,7 +98,7 @@ module _ (resources : ℕ) (ds : List Deal) where
       omega (arith, t, u, v)
   parts_step m next ls Cash x k ne = refl
 
-  pub parts_others : (m next : ℕ) (xs : List Slip) (ls : List Line) → Fitting resources ds next xs ls → All (λ x. x.deal ≡ m → ⊥) xs
+  pub parts_others : (m next : ℕ) (xs : List Slip) (ls : List Line) → Fitting resources ds next xs ls → Each (λ x. x.deal ≡ m → ⊥) xs
       → total (λ l. only (eqb l.deal m) l.part) (lines_by xs ls) ≡ total (λ l. only (eqb l.deal m) l.part) ls
   unfolding lines_by
   parts_others m next [] ls k a = refl

@@ -1,6 +1,6 @@
 -- A pair settled: a deal comes, with its cash and its basket.
 use Rattle.std.proofs.Common.{◌≡◌, ℕ, ◌+◌, ◌<◌, ◌≤◌, true, false, cond, eqb, List, [], ◌∷◌, ◌++◌, length, is_some, Some, None, Ok, Option, unwrap_or, sym, refl, ap, ◌∙◌, subst, arith}
-use Rattle.std.specs.List.{AllByRecursion as All}
+use Rattle.std.specs.List.{AllByRecursion as Each}
 use Rattle.std.proofs.lemmas.Bool.{eq-eqb, both_ways}
 use Rattle.gathering.specs.declared.order.Pick.{Pick}
 use Rattle.gathering.specs.Law.{Covers}
@@ -92,7 +92,7 @@ module _ (o : Opening) (s : State) (h : List Entry) (k : Kept o s h) (ps : List 
   some_picks : 0 < length picks
   some_picks = covers_some s.book (worth_by d.weighing) ps (order_for d (target_of d)) [] picks covers (omega (arith, ranges.sought_least, target_enough t.weighing t.margin t.sought))
 
-  pub standing_picks : All (Picked s.book.resources) picks
+  pub standing_picks : Each (Picked s.book.resources) picks
   standing_picks = picks_stand s.book (worth_by d.weighing) ps (order_for d (target_of d)) [] s.book.resources picks listed covers
 
   not_yet : has_deal n s.deals ≡ false
@@ -113,13 +113,13 @@ module _ (o : Opening) (s : State) (h : List Entry) (k : Kept o s h) (ps : List 
   pub lines_are : lines_by xs s.lines ≡ lines_by ys s.lines
   lines_are = cash_lines Settle d 0 d.taker d.giver d.cash ys s.lines
 
-  stocks : All Stock ys
+  stocks : Each Stock ys
   stocks = deliveries_stock Settle d refl s.next_line picks
 
-  low : All (λ x. 3 ≤ x.resource) ys
+  low : Each (λ x. 3 ≤ x.resource) ys
   low = stock_low s.book.resources es s.next_line ys s.lines fits_out stocks
 
-  one_deal : All (λ x. x.deal ≡ n) xs
+  one_deal : Each (λ x. x.deal ≡ n) xs
   one_deal = all_append _ _ ys (cash_all Settle d 0 d.taker d.giver d.cash (λ x. x.deal ≡ n) refl) (deliveries_deal Settle d s.next_line picks)
 
   total_ones : (zs : List Pick) → total (λ (x : Pick). 1) zs ≡ length zs
@@ -178,5 +178,5 @@ module _ (o : Opening) (s : State) (h : List Entry) (k : Kept o s h) (ps : List 
       (λ a c. omega (arith, total_append (λ x. only (is_interest x) (comes_to a c x)) C ys, no_interest_of (comes_to a c) ys stocks, cash_total Settle d 0 d.taker d.giver d.cash (λ x. only (is_interest x) (comes_to a c x)) false refl))
       (λ a c. omega (arith, total_append (λ x. only (is_interest x) (goes_from a c x)) C ys, no_interest_of (goes_from a c) ys stocks, cash_total Settle d 0 d.taker d.giver d.cash (λ x. only (is_interest x) (goes_from a c x)) false refl)))) ok
     where
-      no_interest_of : (f : Slip → ℕ) (zs : List Slip) → All Stock zs → total (λ x. only (is_interest x) (f x)) zs ≡ 0
+      no_interest_of : (f : Slip → ℕ) (zs : List Slip) → Each Stock zs → total (λ x. only (is_interest x) (f x)) zs ≡ 0
       no_interest_of f zs = total_zero Stock (λ x. only (is_interest x) (f x)) (λ x st. ap (λ b. only b (f x)) st.no_interest) zs

@@ -1,7 +1,7 @@
 -- After the cuts of a mark no line can send back one unit more.
 use Rattle.std.proofs.Common.{◌≡◌, ℕ, ◌+◌, ◌-◌, ◌<◌, ◌≤◌, min, Bool, true, false, cond, eqb, ltb, ◌⊎◌, List, [], ◌∷◌, reverse, sym, refl, ap, ◌∙◌, subst, inl, inr, arith}
 use mathlib.Core.List.{reverse-cons}
-use Rattle.std.specs.List.{AllByRecursion as All}
+use Rattle.std.specs.List.{AllByRecursion as Each}
 use Rattle.std.proofs.lemmas.Bool.{and_parts, and_cases, ltb-false, leb-false, eqb-true, eq-eqb, ne_eqb, both_ways, cases_eq, cases_Bool, cases_lt, lt-ltb}
 use Rattle.std.proofs.lemmas.Bool.Decides.{nat_tests}
 use Rattle.book.specs.Lists.{run}
@@ -28,7 +28,7 @@ use Rattle.law.proofs.Worths.{units_more, priced_some, quantity_priced}
 use Rattle.law.proofs.Cutting.{Distinct, Cut, cut_is, Met, line_part_lem, rest_worth, cut_worth, met_after, found_each}
 
 -- each row is found in the list the other way round
-pub has_reverse : {X : Type 0} (key : X → ℕ) (xs : List X) → All (λ x. has key (key x) (reverse xs) ≡ true) xs
+pub has_reverse : {X : Type 0} (key : X → ℕ) (xs : List X) → Each (λ x. has key (key x) (reverse xs) ≡ true) xs
 has_reverse key [] = tt
 has_reverse key (x ∷ xs) =
     (last, all_to _ _ (λ y t. subst (λ zs. has key (key y) zs ≡ true) (sym (reverse-cons x xs)) (has_push key (key y) (reverse xs) x ∙ ap (λ b. cond b true (eqb (key x) (key y))) t)) xs (has_reverse key xs))
@@ -115,9 +115,9 @@ module _ (ps : List Price) (d : Deal) where
   waits_next l rest m value x ne (inl t) = inl (ap (λ b. cond b true (has_line x.number rest)) (sym (ne_eqb _ _ (λ e. ne (sym e)))) ∙ t)
   waits_next l rest m value x ne (inr k) = inr k
 
-  pub cuts_spent : (m : Meaning) (value : ℕ) (rest cur : List Line) → Distinct return_number rest → All (Met ps d cur) rest → All (λ l. 1 ≤ l.quantity) rest → Ordered return_number cur
-      → worthOn ps d cur ≡ value → target_of d ≤ value → All (Waits rest m value) cur
-      → All (Spent ps d (run m (movements_of (cutsFrom ps d m value rest))) (worthOn ps d (lines_by (cutsFrom ps d m value rest) cur))) (lines_by (cutsFrom ps d m value rest) cur)
+  pub cuts_spent : (m : Meaning) (value : ℕ) (rest cur : List Line) → Distinct return_number rest → Each (Met ps d cur) rest → Each (λ l. 1 ≤ l.quantity) rest → Ordered return_number cur
+      → worthOn ps d cur ≡ value → target_of d ≤ value → Each (Waits rest m value) cur
+      → Each (Spent ps d (run m (movements_of (cutsFrom ps d m value rest))) (worthOn ps d (lines_by (cutsFrom ps d m value rest) cur))) (lines_by (cutsFrom ps d m value rest) cur)
   unfolding cutsFrom lines_by run
   cuts_spent m value [] cur apart met some rise e enough waits =
       all_to _ _ (λ x k. subst (λ v. Spent ps d m v x) (sym e) (elim k [ inl t ↦ absurd (both_ways false refl t) | inr s ↦ s ])) cur waits
@@ -127,7 +127,7 @@ module _ (ps : List Price) (d : Deal) where
       let same : (x : Line) → line_of x.number cur ≡ x → x.number ≡ l.number → x ≡ l = λ x is n. sym is ∙ ap (λ i. line_of i cur) n ∙ met.0.is in
       elim (cases_Bool (cuts ps d m value l)) [
         | inr out ↦
-            subst (λ b. All (Spent ps d (run m (movements_of (cond b (cutSlip ps d m value l ∷ cutsFrom ps d (moved m (movement_of (cutSlip ps d m value l))) (valueCut ps d m value l) rest) (cutsFrom ps d m value rest)))) (worthOn ps d (lines_by (cond b (cutSlip ps d m value l ∷ cutsFrom ps d (moved m (movement_of (cutSlip ps d m value l))) (valueCut ps d m value l) rest) (cutsFrom ps d m value rest)) cur))) (lines_by (cond b (cutSlip ps d m value l ∷ cutsFrom ps d (moved m (movement_of (cutSlip ps d m value l))) (valueCut ps d m value l) rest) (cutsFrom ps d m value rest)) cur)) (sym out)
+            subst (λ b. Each (Spent ps d (run m (movements_of (cond b (cutSlip ps d m value l ∷ cutsFrom ps d (moved m (movement_of (cutSlip ps d m value l))) (valueCut ps d m value l) rest) (cutsFrom ps d m value rest)))) (worthOn ps d (lines_by (cond b (cutSlip ps d m value l ∷ cutsFrom ps d (moved m (movement_of (cutSlip ps d m value l))) (valueCut ps d m value l) rest) (cutsFrom ps d m value rest)) cur))) (lines_by (cond b (cutSlip ps d m value l ∷ cutsFrom ps d (moved m (movement_of (cutSlip ps d m value l))) (valueCut ps d m value l) rest) (cutsFrom ps d m value rest)) cur)) (sym out)
             (cuts_spent m value rest cur apart.1 met.1 some.1 rise e enough
             (all_to (λ x. Waits (l ∷ rest) m value x × ((has_line x.number cur ≡ true) × (line_of x.number cur ≡ x))) (Waits rest m value) (λ x k. elim (cases_eq x.number l.number) [
               | inl n ↦ inr (subst (Spent ps d m value) (sym (same x k.1.1 n)) (λ on w. spent_kept m value l out (omega (arith, line_part_lem ps d cur l met.0 on, e)) some.0 on w))
@@ -143,7 +143,7 @@ module _ (ps : List Price) (d : Deal) where
             let full : worthOnLine ps d l ≡ unitsWorth ps d l.security l.quantity = quantity_priced ps d l.security l.quantity (priced_some ps d l.security l.quantity c.worth) in
             let less : v1 ≤ value = omega (arith, part, full, units_more ps d l.security (l.quantity - q) l.quantity (omega arith)) in
             let next : List Line = replaced return_number l.number (lessened q) cur in
-            subst (λ b. All (Spent ps d (run m (movements_of (cond b (cutSlip ps d m value l ∷ cutsFrom ps d m1 v1 rest) (cutsFrom ps d m value rest)))) (worthOn ps d (lines_by (cond b (cutSlip ps d m value l ∷ cutsFrom ps d m1 v1 rest) (cutsFrom ps d m value rest)) cur))) (lines_by (cond b (cutSlip ps d m value l ∷ cutsFrom ps d m1 v1 rest) (cutsFrom ps d m value rest)) cur)) (sym cut)
+            subst (λ b. Each (Spent ps d (run m (movements_of (cond b (cutSlip ps d m value l ∷ cutsFrom ps d m1 v1 rest) (cutsFrom ps d m value rest)))) (worthOn ps d (lines_by (cond b (cutSlip ps d m value l ∷ cutsFrom ps d m1 v1 rest) (cutsFrom ps d m value rest)) cur))) (lines_by (cond b (cutSlip ps d m value l ∷ cutsFrom ps d m1 v1 rest) (cutsFrom ps d m value rest)) cur)) (sym cut)
             (cuts_spent m1 v1 rest next apart.1
             (all_to _ _ (λ x p. met_after ps d q l.number cur x p.0 p.1) rest (all_both _ _ rest apart.0 met.1))
             some.1
@@ -154,8 +154,8 @@ module _ (ps : List Price) (d : Deal) where
               | inl t ↦ inl t
               | inr s ↦ inr (spent_later m m1 value v1 x (moved_free m value x.security l) less s)
             ])
-            (λ x k n. subst (λ y. All (Waits rest m1 v1) (lessened q y)) (sym (same x k.1.1 n))
-            (by_test (eqb l.quantity q) (λ b. eqb l.quantity q ≡ b → All (Waits rest m1 v1) (cond b [] (less_quantity q l ∷ [])))
+            (λ x k n. subst (λ y. Each (Waits rest m1 v1) (lessened q y)) (sym (same x k.1.1 n))
+            (by_test (eqb l.quantity q) (λ b. eqb l.quantity q ≡ b → Each (Waits rest m1 v1) (cond b [] (less_quantity q l ∷ [])))
             (λ t _. tt)
             (λ t _. (inr (spent_cut m value l c part t), tt)) refl))))
       ]

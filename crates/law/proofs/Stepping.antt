@@ -1,6 +1,6 @@
 -- One plan carried out: the two halves of the law joined.
 use Rattle.std.proofs.Common.{◌≡◌, ℕ, ◌+◌, ◌<◌, Bool, true, false, cond, eqb, List, [], ◌∷◌, sym, refl, ap, ◌∙◌, subst, inl, inr, arith}
-use Rattle.std.specs.List.{AllByRecursion as All}
+use Rattle.std.specs.List.{AllByRecursion as Each}
 use Rattle.std.proofs.lemmas.Bool.{cases_eq, both_ways, ne_eqb}
 use Rattle.book.specs.Lists.{run}
 use Rattle.book.proofs.Runs.{run_lawful}
@@ -88,7 +88,7 @@ module _ (o : Opening) (m : Meaning) (date next : ℕ) (ds : List Deal) (after :
       let g : is_back x ≡ false = rw e in
       record { below = λ b. absurd (both_ways (is_cash x) b t); out = λ b. absurd (both_ways (is_out x) f b); back = λ b. absurd (both_ways (is_back x) g b) }
 
-  pub between_new : (xs : List Slip) (n : ℕ) (ls : List Line) → Fitting resources ds n xs ls → All (Between next h) xs
+  pub between_new : (xs : List Slip) (n : ℕ) (ls : List Line) → Fitting resources ds n xs ls → Each (Between next h) xs
   between_new [] n ls f = tt
   between_new (x ∷ xs) n ls f = (between_one n ls x.sense x refl f.0, between_new xs (n + issuing x.sense) (line_by_sense x.sense x ls) f.1)
 
@@ -114,12 +114,12 @@ joined o s h c p places k ok on fits d =
       slips = (between_all p.slips s.next_line s.lines fits, all_to _ _ (λ x a. all_to _ _ (λ y b. between_older h c s p y b) x.slips a) h k.slips);
     }
   where
-    between_all : (xs : List Slip) (next : ℕ) (ls : List Line) → Fitting s.book.resources (deals_after s p) next xs ls → All (Between (s.next_deal + numbers_by p.change) (entry_for c s p ∷ h)) xs
+    between_all : (xs : List Slip) (next : ℕ) (ls : List Line) → Fitting s.book.resources (deals_after s p) next xs ls → Each (Between (s.next_deal + numbers_by p.change) (entry_for c s p ∷ h)) xs
     between_all xs next ls f = between_new o (run s.book (movements_of p.slips)) p.date (s.next_deal + numbers_by p.change) (deals_after s p) (parted p.sharing (deals_after s p) (lines_after s p)) (entry_for c s p ∷ h) d s.book.resources xs next ls f
 
 -- ── deals that stay as they are ──
 
-pub same_deals : (ds : List Deal) (resources next : ℕ) (ls : List Line) → All (Placed resources ds next) ls → Carried ds ds ls
+pub same_deals : (ds : List Deal) (resources next : ℕ) (ls : List Line) → Each (Placed resources ds next) ls → Carried ds ds ls
 same_deals ds resources next ls = all_to _ _ (λ l p. (p.stands, record { giver = refl; taker = refl; currency = refl })) ls
 
 -- no slip leaves the lines as they are
@@ -129,7 +129,7 @@ no_slips ls = refl
 
 -- shared out again, a deal that has lines has its cash on them
 pub even_over : (o : Opening) (s : State) (h : List Entry) (k : Kept o s h) (ps : List Price) (n : ℕ) (xs : List Slip)
-    → Fitting s.book.resources s.deals s.next_line xs s.lines → All (λ x. x.deal ≡ n) xs → 0 < lines_on n (lines_by xs s.lines)
+    → Fitting s.book.resources s.deals s.next_line xs s.lines → Each (λ x. x.deal ≡ n) xs → 0 < lines_on n (lines_by xs s.lines)
     → (i : ℕ) → has_deal i s.deals ≡ true → parts_for i (parted (over ps n) s.deals (lines_by xs s.lines)) ≡ parts_for i s.lines
 even_over o s h k ps n xs fits one some i there =
     elim (cases_eq i n) [
@@ -148,7 +148,7 @@ even_over o s h k ps n xs fits one some i there =
 pub stock_only : (o : Opening) (s : State) (h : List Entry) (c : Call) (places : ℕ) (phase : Phase) (xs : List Slip) (sh : Sharing) (alert : Bool)
     → Kept o s h → Passes s (record { date = s.date; phase = phase; change = none; slips = xs; sharing = sh; alert = alert }) places
     → stated_by c s.next_deal ≡ other
-    → Fitting s.book.resources s.deals s.next_line xs s.lines → All Stock xs
+    → Fitting s.book.resources s.deals s.next_line xs s.lines → Each Stock xs
     → ((i : ℕ) → has_deal i s.deals ≡ true → parts_for i (parted sh s.deals (lines_by xs s.lines)) ≡ parts_for i s.lines)
     → Kept o (carried s (record { date = s.date; phase = phase; change = none; slips = xs; sharing = sh; alert = alert })) (record { call = c; next = s.next_deal; slips = xs } ∷ h)
 stock_only o s h c places phase xs sh alert k ok st fits stocks even =

@@ -1,6 +1,6 @@
 -- What holds of every past, from the induction.
 use Rattle.std.proofs.Common.{◌≡◌, ℕ, ◌+◌, Bool, true, false, cond, ◌&&◌, eqb, List, [], ◌∷◌, length, Some, None, Ok, Err, sum_by, Result, sym, refl, ap, subst, arith}
-use Rattle.std.specs.List.{AllByRecursion as All}
+use Rattle.std.specs.List.{AllByRecursion as Each}
 use Rattle.std.proofs.lemmas.List.{length-map}
 use Rattle.std.proofs.lemmas.List.Sums.{sum_by-cons}
 use Rattle.std.proofs.lemmas.Bool.{both_ways}
@@ -86,7 +86,7 @@ giver_is a n (d ∷ ds) h =
     by_test (eqb d.number n) (λ b. cond b true (has_deal n ds) ≡ true → cond b (eqb d.giver a) (is_party Giver a n ds) ≡ gives a (cond b d (deal_of n ds)))
     (λ e k. refl) (λ e k. giver_is a n ds k) h
 
-panel_sum : (f : Line → ℕ) (a : ℕ) (ds : List Deal) (ls : List Line) → All (λ l. has_deal l.deal ds ≡ true) ls → sum_by f (lines_of Giver a ds ls) ≡ over ds (gives a) f ls
+panel_sum : (f : Line → ℕ) (a : ℕ) (ds : List Deal) (ls : List Line) → Each (λ l. has_deal l.deal ds ≡ true) ls → sum_by f (lines_of Giver a ds ls) ≡ over ds (gives a) f ls
 panel_sum f a ds [] on = refl
 panel_sum f a ds (l ∷ ls) on =
     let g = giver_is a l.deal ds on.0 in
@@ -95,7 +95,7 @@ panel_sum f a ds (l ∷ ls) on =
     (λ e t. omega (arith, panel_sum f a ds ls on.1, ap (λ b. only b (f l)) t)) (sym g)
 
 -- by the pairs, where the parties of each slip are those of its deal's pair
-slips_alike : (next : ℕ) (h es : List Entry) (f g : Slip → ℕ) → ((x : Slip) → Between next h x → f x ≡ g x) → All (λ e. All (Between next h) e.slips) es → slipped f es ≡ slipped g es
+slips_alike : (next : ℕ) (h es : List Entry) (f g : Slip → ℕ) → ((x : Slip) → Between next h x → f x ≡ g x) → Each (λ e. Each (Between next h) e.slips) es → slipped f es ≡ slipped g es
 slips_alike next h [] f g e a = refl
 slips_alike next h (x ∷ es) f g e a = omega (arith, total_same (Between next h) f g e x.slips a.0, slips_alike next h es f g e a.1)
 
@@ -124,7 +124,7 @@ pub every_panel_tells : EveryPanelTells
 every_panel_tells o w h p =
     let k = (held p).kept in
     let s : State = state_of w in
-    let on : All (λ l. has_deal l.deal s.deals ≡ true) s.lines = all_to _ _ (λ l x. x.stands) s.lines k.lines.placed in
+    let on : Each (λ l. has_deal l.deal s.deals ≡ true) s.lines = all_to _ _ (λ l x. x.stands) s.lines k.lines.placed in
     let sound = (every_past_is_sound o w h p).sound in
     let whole = sound_whole w.book.resources w.book.accounts w.head w.deals w.lines sound in
     record {

@@ -2,7 +2,7 @@
 use Rattle.std.proofs.Common.{◌≡◌, ℕ, ◌+◌, ◌≤◌, Bool, true, false, cond, eqb, List, [], ◌∷◌, ◌++◌, map, length, refl, ap, arith}
 use Rattle.std.proofs.lemmas.Bool.{eqb-true, both_ways}
 use Rattle.std.proofs.lemmas.Bool.Decides.{nat_tests}
-use Rattle.std.specs.List.{AllByRecursion as All}
+use Rattle.std.specs.List.{AllByRecursion as Each}
 use Rattle.law.specs.Sums.{only, total}
 use Rattle.law.specs.Finding.{has, found, replaced}
 
@@ -26,45 +26,45 @@ total_map f g [] = refl
 total_map f g (x ∷ xs) = ap (λ n. f (g x) + n) (total_map f g xs)
 
 -- two summands that agree on the elements
-pub total_same : {X : Type 0} (P : X → Type 0) (f g : X → ℕ) → ((x : X) → P x → f x ≡ g x) → (xs : List X) → All P xs → total f xs ≡ total g xs
+pub total_same : {X : Type 0} (P : X → Type 0) (f g : X → ℕ) → ((x : X) → P x → f x ≡ g x) → (xs : List X) → Each P xs → total f xs ≡ total g xs
 total_same P f g e [] h = refl
 total_same P f g e (x ∷ xs) h = omega (arith, e x h.0, total_same P f g e xs h.1)
 
-pub total_zero : {X : Type 0} (P : X → Type 0) (f : X → ℕ) → ((x : X) → P x → f x ≡ 0) → (xs : List X) → All P xs → total f xs ≡ 0
+pub total_zero : {X : Type 0} (P : X → Type 0) (f : X → ℕ) → ((x : X) → P x → f x ≡ 0) → (xs : List X) → Each P xs → total f xs ≡ 0
 total_zero P f e [] h = refl
 total_zero P f e (x ∷ xs) h = omega (arith, e x h.0, total_zero P f e xs h.1)
 
 -- an element is no more than the sum
-pub total_each : {X : Type 0} (f : X → ℕ) (xs : List X) → All (λ x. f x ≤ total f xs) xs
+pub total_each : {X : Type 0} (f : X → ℕ) (xs : List X) → Each (λ x. f x ≤ total f xs) xs
 total_each f [] = tt
 total_each f (x ∷ xs) = (omega arith, up xs (total_each f xs))
   where
-    up : (ys : List _) → All (λ y. f y ≤ total f xs) ys → All (λ y. f y ≤ f x + total f xs) ys
+    up : (ys : List _) → Each (λ y. f y ≤ total f xs) ys → Each (λ y. f y ≤ f x + total f xs) ys
     up [] h = tt
     up (y ∷ ys) h = (omega (arith, h.0), up ys h.1)
 
 -- ── properties ──
 
-pub all_to : {X : Type 0} (P Q : X → Type 0) → ((x : X) → P x → Q x) → (xs : List X) → All P xs → All Q xs
+pub all_to : {X : Type 0} (P Q : X → Type 0) → ((x : X) → P x → Q x) → (xs : List X) → Each P xs → Each Q xs
 all_to P Q f [] h = tt
 all_to P Q f (x ∷ xs) h = (f x h.0, all_to P Q f xs h.1)
 
-pub all_over : {X Y : Type 0} (P : X → Type 0) (Q : Y → Type 0) (g : X → Y) → ((x : X) → P x → Q (g x)) → (xs : List X) → All P xs → All Q (map g xs)
+pub all_over : {X Y : Type 0} (P : X → Type 0) (Q : Y → Type 0) (g : X → Y) → ((x : X) → P x → Q (g x)) → (xs : List X) → Each P xs → Each Q (map g xs)
 all_over P Q g f [] h = tt
 all_over P Q g f (x ∷ xs) h = (f x h.0, all_over P Q g f xs h.1)
 
-pub all_both : {X : Type 0} (P Q : X → Type 0) (xs : List X) → All P xs → All Q xs → All (λ x. P x × Q x) xs
+pub all_both : {X : Type 0} (P Q : X → Type 0) (xs : List X) → Each P xs → Each Q xs → Each (λ x. P x × Q x) xs
 all_both P Q [] h k = tt
 all_both P Q (x ∷ xs) h k = ((h.0, k.0), all_both P Q xs h.1 k.1)
 
-pub all_append : {X : Type 0} (P : X → Type 0) (xs ys : List X) → All P xs → All P ys → All P (xs ++ ys)
+pub all_append : {X : Type 0} (P : X → Type 0) (xs ys : List X) → Each P xs → Each P ys → Each P (xs ++ ys)
 all_append P [] ys h k = k
 all_append P (x ∷ xs) ys h k = (h.0, all_append P xs ys h.1 k)
 
 -- ── the first row of a number ──
 
 module _ {X : Type 0} (key : X → ℕ) where
-  pub found_all : (P : X → Type 0) (z : X) (n : ℕ) (xs : List X) → has key n xs ≡ true → All P xs → P (found key z n xs)
+  pub found_all : (P : X → Type 0) (z : X) (n : ℕ) (xs : List X) → has key n xs ≡ true → Each P xs → P (found key z n xs)
   found_all P z n [] h a = absurd (both_ways false refl h)
   found_all P z n (x ∷ xs) h a =
       by_test (eqb (key x) n) (λ b. cond b true (has key n xs) ≡ true → P (cond b x (found key z n xs)))
@@ -79,7 +79,7 @@ module _ {X : Type 0} (key : X → ℕ) where
       (λ e k. found_key z n xs k) h
 
   -- a row that no row is like in number is not found
-  pub has_none : (n : ℕ) (xs : List X) → All (λ x. key x ≡ n → ⊥) xs → has key n xs ≡ false
+  pub has_none : (n : ℕ) (xs : List X) → Each (λ x. key x ≡ n → ⊥) xs → has key n xs ≡ false
   has_none n [] h = refl
   has_none n (x ∷ xs) h =
       by_test (eqb (key x) n) (λ b. cond b true (has key n xs) ≡ false)
@@ -119,10 +119,10 @@ module _ {X : Type 0} (key : X → ℕ) where
         (λ e k. omega (arith, total_replaced f z xs k)) h
 
     -- what holds of each row, and of those in the place of the one that is found
-    pub all_replaced : (P : X → Type 0) (z : X) (xs : List X) → has key n xs ≡ true → All P xs → All P (g (found key z n xs)) → All P (replaced key n g xs)
+    pub all_replaced : (P : X → Type 0) (z : X) (xs : List X) → has key n xs ≡ true → Each P xs → Each P (g (found key z n xs)) → Each P (replaced key n g xs)
     all_replaced P z [] h a k = tt
     all_replaced P z (x ∷ xs) h a k =
-        by_test (eqb (key x) n) (λ b. cond b true (has key n xs) ≡ true → All P (g (cond b x (found key z n xs))) → All P (cond b (g x ++ xs) (x ∷ replaced key n g xs)))
+        by_test (eqb (key x) n) (λ b. cond b true (has key n xs) ≡ true → Each P (g (cond b x (found key z n xs))) → Each P (cond b (g x ++ xs) (x ∷ replaced key n g xs)))
         (λ e t k'. all_append P (g x) xs k' a.1)
         (λ e t k'. (a.0, all_replaced P z xs t a.1 k')) h k
 

@@ -1,6 +1,6 @@
 -- Over a sound register a call finds nothing broken but a price list.
 use Rattle.std.proofs.Common.{◌≡◌, Bool, true, false, List, [], ◌∷◌, Some, None, Ok, Err, Option, Result, sym, refl, ap, ◌∙◌, inl, inr}
-use Rattle.std.specs.List.{AllByRecursion as All}
+use Rattle.std.specs.List.{AllByRecursion as Each}
 use Rattle.std.proofs.lemmas.Bool.{both_ways, cases_Bool}
 use Rattle.book.specs.declared.movement.RefusedAt.{RefusedAt}
 use Rattle.book.specs.Lists.{rehearsed}
@@ -40,7 +40,7 @@ abbrev Whole : {A : Type 0} → Result A Refusal → Type 0
 Whole (Ok a) = Unit {0}
 Whole (Err e) = is_broken e ≡ false
 
-first_whole : (cs : List (Condition Refusal)) → All (λ c. is_broken c.1 ≡ false) cs → Whole (first_of cs)
+first_whole : (cs : List (Condition Refusal)) → Each (λ c. is_broken c.1 ≡ false) cs → Whole (first_of cs)
 first_whole [] a = tt
 first_whole (c ∷ cs) a =
     elim (cases_Bool c.0) [

@@ -1,6 +1,6 @@
 -- Deals of which an entry says nothing, and a plan that moves nothing but stock.
 use Rattle.std.proofs.Common.{◌≡◌, ℕ, ◌+◌, ◌/◌, ◌<◌, ◌≤◌, true, false, eqb, List, [], ◌∷◌, Ok, sym, refl, ap, ◌∙◌, subst, arith}
-use Rattle.std.specs.List.{AllByRecursion as All}
+use Rattle.std.specs.List.{AllByRecursion as Each}
 use Rattle.std.proofs.lemmas.Bool.{both_ways}
 use Rattle.std.proofs.lemmas.Bool.Decides.{nat_tests}
 use Rattle.book.specs.Lists.{run, rehearsed}
@@ -31,12 +31,12 @@ low_step resources ds next ls Cash x e k s =
     let c : is_cash x ≡ true = rw e in
     absurd (both_ways (is_cash x) s.no_cash c)
 
-pub stock_low : (resources : ℕ) (ds : List Deal) (next : ℕ) (xs : List Slip) (ls : List Line) → Fitting resources ds next xs ls → All Stock xs → All (λ x. 3 ≤ x.resource) xs
+pub stock_low : (resources : ℕ) (ds : List Deal) (next : ℕ) (xs : List Slip) (ls : List Line) → Fitting resources ds next xs ls → Each Stock xs → Each (λ x. 3 ≤ x.resource) xs
 stock_low resources ds next [] ls k s = tt
 stock_low resources ds next (x ∷ xs) ls k s =
     (low_step resources ds next ls x.sense x refl k.0 s.0, stock_low resources ds (next + issuing x.sense) xs (line_by_sense x.sense x ls) k.1 s.1)
 
-module _ (a c : ℕ) (money : c < 3) (xs : List Slip) (low : All (λ x. 3 ≤ x.resource) xs) where
+module _ (a c : ℕ) (money : c < 3) (xs : List Slip) (low : Each (λ x. 3 ≤ x.resource) xs) where
   pub no_cash_in : total (comes_to a c) xs ≡ 0
   no_cash_in = total_zero _ (comes_to a c) (λ x l. grind (arith, nat_tests, l, money)) xs low
 
@@ -79,7 +79,7 @@ module _ (o : Opening) (h : List Entry) (e : Entry) where
 
 module _ (o : Opening) (m : Meaning) (date next : ℕ) (ds : List Deal) (ls after : List Line) (h : List Entry) (e : Entry)
     (k : DealsKept o m date next ds ls h) (takes_all : Ok tt ≡ rehearsed m (movements_of e.slips))
-    (Says-other : stated e ≡ other) (stocks : All Stock e.slips) (low : All (λ x. 3 ≤ x.resource) e.slips)
+    (Says-other : stated e ≡ other) (stocks : Each Stock e.slips) (low : Each (λ x. 3 ≤ x.resource) e.slips)
     (even : (n : ℕ) → has_deal n ds ≡ true → parts_for n after ≡ parts_for n ls) where
   quiet : (n : ℕ) → Quiet n e
   quiet n = quiet_other n e (stock_back n e.slips stocks) (stock_interest n e.slips stocks) Says-other
@@ -94,7 +94,7 @@ module _ (o : Opening) (m : Meaning) (date next : ℕ) (ds : List Deal) (ls afte
         date_most = k.date_most;
         next_some = k.next_some;
         rise = k.rise;
-        ranged = subst (λ n. All (Ranged n next date) ds) (sym (run_accounts m (movements_of e.slips))) k.ranged;
+        ranged = subst (λ n. Each (Ranged n next date) ds) (sym (run_accounts m (movements_of e.slips))) k.ranged;
         says = all_to _ _ (λ d s. says_quiet o h e ls after d (quiet d.number) still (even d.number (k.stand d.number ∙ s.up)) s) ds k.says;
         once = λ n. omega (arith, total_append (λ x. only (eqb x n) 1) (settled_numbers (stated e)) (deal_numbers h), (quiet n).numbers, k.once n);
         fresh = λ n l. unseen_quiet o n e h (quiet n) (k.fresh n l);

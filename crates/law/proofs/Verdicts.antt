@@ -2,7 +2,7 @@
 use Rattle.std.proofs.Common.{◌≡◌, ℕ, ◌+◌, ◌≤◌, Bool, true, false, cond, not, List, [], ◌∷◌, length, is_ok, Ok, Err, Result, sym, refl, ap, ◌∙◌, inl, inr}
 use Rattle.std.specs.Result.{result_unwrap_or}
 use Rattle.std.proofs.lemmas.Bool.{both_ways, cases_Bool, or_parts, ltb-false}
-use Rattle.std.specs.List.{AllByRecursion as All}
+use Rattle.std.specs.List.{AllByRecursion as Each}
 use Rattle.book.specs.declared.movement.RefusedAt.{RefusedAt}
 use Rattle.book.specs.Lists.{rehearsed}
 use Rattle.book.specs.Refusals.{Condition, first_of}
@@ -18,7 +18,7 @@ pub not_ok : {A B : Type 0} {X : Type 0} (e : B) (a : A) → ◌≡◌ {A = Resu
 not_ok e a p = absurd (both_ways false refl (ap is_ok p))
 
 -- where nothing is refused, no condition holds
-pub none_holds : {E : Type 0} (cs : List (Condition E)) → Ok tt ≡ first_of cs → All (λ c. c.0 ≡ false) cs
+pub none_holds : {E : Type 0} (cs : List (Condition E)) → Ok tt ≡ first_of cs → Each (λ c. c.0 ≡ false) cs
 none_holds [] e = tt
 none_holds (c ∷ cs) e =
     elim (cases_Bool c.0) [

@@ -1,6 +1,6 @@
 -- A world and the rows that stand in it; and that it is sound.
 use Rattle.std.proofs.Common.{◌≡◌, ℕ, suc, ◌≤◌, true, false, cond, eqb, leb, List, [], ◌∷◌, length, take, sym, refl, ap, ◌∙◌, subst, arith}
-use Rattle.std.specs.List.{AllByRecursion as All}
+use Rattle.std.specs.List.{AllByRecursion as Each}
 use Rattle.std.proofs.lemmas.Bool.{and_parts, leb-true, both_ways, eqb-true, eq-eqb}
 use Rattle.memory.specs.declared.row.Deal.{Deal}
 use Rattle.memory.specs.declared.row.Line.{Line}
@@ -37,10 +37,10 @@ has_place n (x ∷ xs) h =
 
 module _ (o : Opening) (s : State) (h : List Entry) (k : Kept o s h) where
   -- no part is more than its deal's cash
-  parts_low : All (λ l. l.part ≤ most_cash) s.lines
+  parts_low : Each (λ l. l.part ≤ most_cash) s.lines
   parts_low =
       all_to _ _ (λ l p.
-      let each : All (λ x. only (eqb x.deal l.deal) x.part ≤ parts_for l.deal s.lines) s.lines = total_each (λ x. only (eqb x.deal l.deal) x.part) s.lines in
+      let each : Each (λ x. only (eqb x.deal l.deal) x.part ≤ parts_for l.deal s.lines) s.lines = total_each (λ x. only (eqb x.deal l.deal) x.part) s.lines in
       let said = found_all number (λ d. Says o h s.lines d × Ranged s.book.accounts s.next_deal s.date d) no_deal l.deal s.deals p.1.stands (all_both _ _ s.deals k.deals.says k.deals.ranged) in
       let key = found_key number no_deal l.deal s.deals p.1.stands in
       let parts : parts_for l.deal s.lines ≡ (deal_of l.deal s.deals).cash = ap (λ i. parts_for i s.lines) (sym key) ∙ said.0.parts in
@@ -48,11 +48,11 @@ module _ (o : Opening) (s : State) (h : List Entry) (k : Kept o s h) where
       (all_both _ _ s.lines (own s.lines) k.lines.placed)
     where
       -- each line's part is one of its deal's
-      up : (x : Line) (xs ys : List Line) → All (λ l. l.part ≤ parts_for l.deal xs) ys → All (λ l. l.part ≤ parts_for l.deal (x ∷ xs)) ys
+      up : (x : Line) (xs ys : List Line) → Each (λ l. l.part ≤ parts_for l.deal xs) ys → Each (λ l. l.part ≤ parts_for l.deal (x ∷ xs)) ys
       up x xs [] a = tt
       up x xs (y ∷ ys) a = (omega (arith, a.0), up x xs ys a.1)
 
-      own : (xs : List Line) → All (λ l. l.part ≤ parts_for l.deal xs) xs
+      own : (xs : List Line) → Each (λ l. l.part ≤ parts_for l.deal xs) xs
       own [] = tt
       own (x ∷ xs) = (omega (arith, ap (λ b. only b x.part) (eq-eqb x.deal x.deal refl)), up x xs xs (own xs))
 

@@ -1,6 +1,6 @@
 -- The law: what every past keeps, in sums over slips, over standing lines and over closes.
 use Rattle.std.specs.Prelude.{◌≡◌, ℕ, ◌+◌, ◌/◌, ◌%◌, ◌<◌, ◌≤◌, Bool, false, ◌&&◌, List, [], ◌∷◌, ◌==◌, ◌≢◌}
-use Rattle.std.specs.List.{AllByRecursion as All}
+use Rattle.std.specs.List.{AllByRecursion as Each}
 use Rattle.memory.specs.declared.row.Deal.{Deal}
 use Rattle.memory.specs.declared.row.Line.{Line}
 use Rattle.memory.specs.Kinds.{base_of}
@@ -16,7 +16,7 @@ use Rattle.law.specs.Past.{Opening, Entry, delivered, sent_back, return_numbers,
 -- no number stands twice in a list
 abbrev pub Apart : List ℕ → Type 0
 Apart [] = Unit {0}
-Apart (x ∷ xs) = All (λ y. x ≢ y) xs × Apart xs
+Apart (x ∷ xs) = Each (λ y. x ≢ y) xs × Apart xs
 
 -- the quantity that stands under a return number
 abbrev pub standing : ℕ → List Line → ℕ
@@ -80,7 +80,7 @@ pub record AgreeBy (o : Opening) (s : State) (h : List Entry) : Type 0 where
       ≡ o.book.amount a c + over s.deals (gives_in a c) part_of s.lines + interest_to a c h
   -- the deals that stand are those that were settled and not paid, and their rows say what the history says
   pub stand : (n : ℕ) → has_deal n s.deals ≡ stood n h
-  pub told : All (Told o h s.lines) s.deals
+  pub told : Each (Told o h s.lines) s.deals
   -- on a deal that went the whole interest was paid
   pub went : (n : ℕ) → stood n h ≡ false → interest_on n h ≡ accrued_on o n h / unit_in (pair_of n h).currency
 

@@ -1,6 +1,6 @@
 -- What holds of every past.
 use Rattle.std.specs.Prelude.{◌≡◌, ℕ, ◌+◌, ◌-◌, ◌*◌, ◌<◌, ◌≤◌, Bool, true, false, ◌&&◌, List, [], ◌∷◌, length, None, Ok, Err, ◌==◌, nat_eq}
-use Rattle.std.specs.List.{AllByRecursion as All}
+use Rattle.std.specs.List.{AllByRecursion as Each}
 use Rattle.book.specs.Law.{Conserved}
 use Rattle.book.specs.Meaning.{limit}
 use Rattle.gathering.specs.Law.{Fails}
@@ -67,8 +67,8 @@ EveryPastConserves = (o : Opening) (w : World) (h : List Entry) → Past o w h �
 
 pub record Bounded (w : World) : Type 0 where
   pub amounts : (a r : ℕ) → w.book.amount a r ≤ limit
-  pub quantities : All (λ l. l.quantity ≤ most_units) (state_of w).lines
-  pub interest : All (λ d. d.whole ≤ most_daily * w.head.date) (state_of w).deals
+  pub quantities : Each (λ l. l.quantity ≤ most_units) (state_of w).lines
+  pub interest : Each (λ d. d.whole ≤ most_daily * w.head.date) (state_of w).deals
 
 abbrev pub EveryPastIsBounded : Type 0
 EveryPastIsBounded = (o : Opening) (w : World) (h : List Entry) → Past o w h → Bounded w
@@ -89,7 +89,7 @@ pub record Marks (ps : List Price) (n : ℕ) (s : State) (p : Plan) (t : State) 
   pub uncovered : p.alert ≡ true
       → Fails s.book (worth_by (marked s n).weighing) ps (order_for (marked s n) (target_of (marked s n) - markValue s ps n)) (heldWorths (worth_by (marked s n).weighing) (marked s n).currency ps n s.lines)
   -- above the target, no line worth something can send back one unit more
-  pub spent : target_of (marked s n) < markValue s ps n → All (Spent ps (marked s n) t.book (worthOn ps (marked s n) t.lines)) t.lines
+  pub spent : target_of (marked s n) < markValue s ps n → Each (Spent ps (marked s n) t.book (worthOn ps (marked s n) t.lines)) t.lines
 
 abbrev pub MarkCovers : Type 0
 MarkCovers =

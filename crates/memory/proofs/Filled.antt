@@ -4,7 +4,7 @@ use Rattle.std.proofs.ByRecursion.{All-from_get_or, All-get_or}
 use Rattle.std.proofs.lemmas.List.{length-take-le, length-drop, length-replicate, length-map, length-append, get_or-map, get_or-take, get_or_append_left, take-append-drop, take_all, take_at, drop_at}
 use Rattle.std.proofs.lemmas.Bool.{le-leb, leb-true, and_from, and_parts, cond-true}
 use Rattle.std.specs.Option.{option_or}
-use Rattle.std.specs.List.{AllByRecursion as All}
+use Rattle.std.specs.List.{AllByRecursion as Each}
 use Rattle.memory.specs.Places.{Rising}
 use Rattle.memory.specs.Register.{Filled}
 use Rattle.memory.specs.Rows.{padded}
@@ -38,7 +38,7 @@ module _ {X : Type 0} (zeros : X → Bool) (z : X) where
 
 module _ {X : Type 0} (key : X → ℕ) (rule : ℕ → X → Bool) (Holds : X → Type 0) where
   -- a row that holds passes after a smaller number
-  pub none_broken : ((b : ℕ) (x : X) → b < key x → Holds x → rule b x ≡ true) → (i b : ℕ) (xs : List X) → All Holds xs → Rising (map key xs) → ((k : ℕ) → k < length xs → b < get_or (map key xs) k 0) → None ≡ first_broken key rule i b xs
+  pub none_broken : ((b : ℕ) (x : X) → b < key x → Holds x → rule b x ≡ true) → (i b : ℕ) (xs : List X) → Each Holds xs → Rising (map key xs) → ((k : ℕ) → k < length xs → b < get_or (map key xs) k 0) → None ≡ first_broken key rule i b xs
   unfolding first_broken
   none_broken back i b [] a up below = refl
   none_broken back i b (x ∷ xs) a up below =
@@ -99,7 +99,7 @@ module _ {X : Type 0} (z : X) (n : ℕ) (rows : List X) where
   get_d_padded k d h = get_or_append_left rows (replicate (n - length rows) z) d k h
 
   -- rows that rise and hold fill a table
-  pub filled_padded : (key : X → ℕ) (Holds : X → Type 0) (most : ℕ) → 1 ≤ n → n ≤ most → length rows ≤ n → Rising (map key rows) → All Holds rows → Filled key Holds z most (length rows) (padded z n rows)
+  pub filled_padded : (key : X → ℕ) (Holds : X → Type 0) (most : ℕ) → 1 ≤ n → n ≤ most → length rows ≤ n → Rising (map key rows) → Each Holds rows → Filled key Holds z most (length rows) (padded z n rows)
   filled_padded key Holds most low high fits up each =
       let long = length_padded fits in
       record {
@@ -107,6 +107,6 @@ module _ {X : Type 0} (z : X) (n : ℕ) (rows : List X) where
         few = omega arith;
         within = omega arith;
         rise = subst (λ (xs : List X). Rising (map key xs)) (sym take_padded) up;
-        each = subst (All Holds) (sym take_padded) each;
+        each = subst (Each Holds) (sym take_padded) each;
         spare = sym (λ i. padded z (long i) (take_padded i));
       }

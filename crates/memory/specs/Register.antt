@@ -1,6 +1,6 @@
 -- What holds of a sound register.
 use Rattle.std.specs.Prelude.{◌≡◌, ℕ, ◌*◌, ◌<◌, ◌≤◌, List, map, length, take, Option, MatchOption, slice_index_or}
-use Rattle.std.specs.List.{AllByRecursion as All}
+use Rattle.std.specs.List.{AllByRecursion as Each}
 use Rattle.sharing.specs.Accrual.{unit_of}
 use Rattle.sharing.specs.Limits.{most_cash, most_rate, most_daily}
 use Rattle.valuation.specs.Most.{most_margin, most_sought, most_units}
@@ -57,7 +57,7 @@ pub record Filled {X : Type 0} (key : X → ℕ) (Holds : X → Type 0) (z : X) 
   pub few : length rows ≤ most
   pub within : used ≤ length rows
   pub rise : Rising (map key (take used rows))
-  pub each : All Holds (take used rows)
+  pub each : Each Holds (take used rows)
   pub spare : rows ≡ padded z (length rows) (take used rows)
 
 pub record Sound (accounts resources : ℕ) (h : Head) (deals : List Deal) (lines : List Line) : Type 0 where

@@ -7,7 +7,7 @@ use Rattle.std.proofs.ByRecursion.{All-get_or, All-weaker, all_kept_by}
 use Rattle.std.proofs.lemmas.List.{length-take, get_or-take}
 use Rattle.std.proofs.lemmas.List.Sums.{sum_by-append, sum_by-cons}
 use Rattle.std.proofs.lemmas.Bool.Decides.{nat_tests}
-use Rattle.std.specs.List.{AllByRecursion as All}
+use Rattle.std.specs.List.{AllByRecursion as Each}
 use Rattle.memory.specs.declared.row.Deal.{Deal}
 use Rattle.memory.specs.declared.row.Head.{Head}
 use Rattle.memory.specs.declared.row.Line.{Line}
@@ -73,7 +73,7 @@ module _ (resources : ℕ) where
   abbrev Listed : Line → Type 0
   Listed l = (3 ≤ l.security) × (l.security < resources)
 
-  lines_total : (ls : List Line) → All Listed ls → quantity_on None ls ≡ sum_below (λ k. quantity_on (Some (3 + k)) ls) (resources - 3)
+  lines_total : (ls : List Line) → Each Listed ls → quantity_on None ls ≡ sum_below (λ k. quantity_on (Some (3 + k)) ls) (resources - 3)
   lines_total [] ok = sym (sum_zero (resources - 3))
   lines_total (l ∷ ls) ok =
       let split : sum_below (λ k. quantity_on (Some (3 + k)) (l ∷ ls)) (resources - 3) ≡ sum_below (λ k. quantity_of (Some (3 + k)) l + quantity_on (Some (3 + k)) ls) (resources - 3) =

@@ -5,7 +5,7 @@ use Rattle.std.proofs.ByRecursion.{All-append, All-drop, All-get_or, all-has, al
 use Rattle.std.proofs.lemmas.List.{drop-map, get_or_default, get_or-map, get_or_append_left, get_or_push, get_or-take, length-map, length_push, length-set, length-take-le, map-append, map_push, map-set, set-get_or, take-map}
 use Rattle.std.proofs.lemmas.Bool.{cases_lt, and_parts, cond-true, cond-false, ltb-true, lt-ltb, le-ltb}
 use Rattle.std.proofs.lemmas.Bool.Decides.{nat_tests}
-use Rattle.std.specs.List.{ContainsAt as Has, AllByRecursion as All}
+use Rattle.std.specs.List.{ContainsAt as Has, AllByRecursion as Each}
 use Rattle.memory.specs.declared.row.Head.{Head}
 use Rattle.memory.specs.declared.row.Line.{Line}
 use Rattle.memory.specs.Places.{Rising}
@@ -65,7 +65,7 @@ along : {X : Type 0} (P : ℕ → List X → Type 0) {n n' : ℕ} {rows rows' : 
 along {X} P same is p = subst (λ (q : ℕ × List X). P q.0 q.1) (λ i. (same i, is i)) p
 
 -- another fact of each row
-filled_by : {X : Type 0} {key : X → ℕ} {z : X} {most used : ℕ} {rows : List X} {P : X → Type 0} (Q : X → Type 0) → All Q (take used rows) → Filled key P z most used rows → Filled key Q z most used rows
+filled_by : {X : Type 0} {key : X → ℕ} {z : X} {most used : ℕ} {rows : List X} {P : X → Type 0} (Q : X → Type 0) → Each Q (take used rows) → Filled key P z most used rows → Filled key Q z most used rows
 filled_by Q each f = record { some = f.some; few = f.few; within = f.within; rise = f.rise; each = each; spare = f.spare }
 
 module _ {X : Type 0} {key : X → ℕ} {z : X} {most used : ℕ} {rows : List X} where
@@ -86,11 +86,11 @@ module _ {X : Type 0} {key : X → ℕ} {z : X} {most used : ℕ} {rows : List X
       filled_by Holds (All-weaker (λ x. Has (take used rows) x ⊎ New x) Holds either (take used' rows') after.each) after
 
   module _ {Holds : X → Type 0} (f : Filled key Holds z most used rows) where
-    refill : (P : X → Type 0) (vs : List X) (used' : ℕ) (rows' : List X) → length vs ≡ used' → length vs ≤ length rows → padded z (length rows) vs ≡ rows' → Rising (map key vs) → All P vs → Filled key P z most used' rows'
+    refill : (P : X → Type 0) (vs : List X) (used' : ℕ) (rows' : List X) → length vs ≡ used' → length vs ≤ length rows → padded z (length rows) vs ≡ rows' → Rising (map key vs) → Each P vs → Filled key P z most used' rows'
     refill P vs used' rows' long room is up each = along (Filled key P z most) long is (filled_padded z (length rows) vs key P most f.some f.few room up each)
 
     -- a row more
-    pub add_filled : (x : X) → used < length rows → All (λ y. key y < key x) (take used rows) → Holds x → Filled key Holds z most (used + 1) (set rows used x)
+    pub add_filled : (x : X) → used < length rows → Each (λ y. key y < key x) (take used rows) → Holds x → Filled key Holds z most (used + 1) (set rows used x)
     add_filled x room above holds =
         let us = take used rows in
         let long = length-take-le used rows f.within in
@@ -174,7 +174,7 @@ lowers_filled count h h' other rows rows' i q is is-head less f =
 
 -- cash shared out changes no number
 pub shares_filled : {Holds : Line → Type 0} (Parted : Line → Type 0) (worth : ℕ → ℕ → ℕ → ℕ) (currency : Currency) (ps : List Price) (n cash most used : ℕ) (rows : List Line)
-    → Filled return_number Holds no_line most used rows → All Parted (shared_out worth currency ps n cash (take used rows)) → Filled return_number Parted no_line most used (shared_in worth currency ps n cash used rows)
+    → Filled return_number Holds no_line most used rows → Each Parted (shared_out worth currency ps n cash (take used rows)) → Filled return_number Parted no_line most used (shared_in worth currency ps n cash used rows)
 shares_filled Parted worth currency ps n cash most used rows f each =
     let us = take used rows in
     let long = length-take-le used rows f.within in

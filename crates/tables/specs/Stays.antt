@@ -1,6 +1,6 @@
 -- Tables that stay filled.
 use Rattle.std.specs.Prelude.{◌≡◌, ℕ, ◌<◌, false, ◌⊎◌, List, take, slice_index_or}
-use Rattle.std.specs.List.{ContainsAt as Has, AllByRecursion as All}
+use Rattle.std.specs.List.{ContainsAt as Has, AllByRecursion as Each}
 use Rattle.memory.specs.declared.row.Line.{Line}
 use Rattle.memory.specs.Register.{Filled}
 use Rattle.memory.specs.Rows.{no_line}
@@ -14,7 +14,7 @@ module _ {X : Type 0} (key : X → ℕ) (z : X) (most : ℕ) where
 
   -- with a row of a number above all
   abbrev pub AddsFilled : X → ℕ → List X → ℕ → List X → Type 0
-  AddsFilled x used rows used' rows' = All (λ y. key y < key x) (take used rows) → StaysFilled (λ y. y ≡ x) used rows used' rows'
+  AddsFilled x used rows used' rows' = Each (λ y. key y < key x) (take used rows) → StaysFilled (λ y. y ≡ x) used rows used' rows'
 
   -- with no new row
   abbrev pub RemovesFilled : ℕ → List X → ℕ → List X → Type 0
