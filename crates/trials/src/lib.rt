@@ -9,7 +9,7 @@ pub use sealed::Sealed;
 #[cfg(test)]
 mod baskets;
 #[cfg(test)]
-mod books;
+mod books_alike;
 #[cfg(test)]
 mod damages;
 #[cfg(test)]
