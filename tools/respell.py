@@ -67,15 +67,14 @@ def snake(name):
 
 def declared(root):
     found = set()
-    for path in files(root, ".antt"):
+    for path in files(root, ".antt", ".rt"):
         made = os.path.basename(path) in GENERATED
         for line in read(path).split("\n"):
-            m = re.match(r"^(?:(?:abbrev|unfoldable|pub) )*(" + IDENT + r") :(?!=)", line)
+            m = re.match(r"^ *(?:(?:abbrev|unfoldable|pub) )*(" + IDENT + r") :(?!=)", line)
             if m and not (made and "goal." in line):
                 found.add(m.group(1))
-            m = re.match(r"^ +(?:pub )?(" + IDENT + r") :(?!=)", line)
-            if m:
-                found.add(m.group(1))
+            if line.startswith(("use ", "pub use ", "ghost use ")):
+                found.update(re.findall(r" as (" + IDENT + ")", line))
     return {n for n in found if n[0].islower() and snake(n) != n}
 
 

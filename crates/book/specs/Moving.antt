@@ -3,7 +3,7 @@ use Rattle.std.specs.Prelude.{ℕ, ◌+◌, ◌-◌, Bool, cond, not, ◌&&◌, 
 use Rattle.book.specs.declared.movement.Movement.{Movement}
 use Rattle.book.specs.declared.refusal.BookRefusal.{BookRefusal}
 use Rattle.book.specs.declared.refusal.BookRefusal.TheVariants.{Outside, Quantity, NotFree, NoRoom, NoMovements}
-use Rattle.book.specs.Refusals.{first_of}
+use Rattle.book.specs.Refusals.{first_refusal}
 use Rattle.book.specs.Meaning.{Meaning, limit}
 
 -- two accounts and a resource of a book of so many
@@ -14,7 +14,7 @@ named accounts resources v =
 -- the answer where the sender has `had`, of which `held` is held back, the receiver has `has`, and `left` movements are left
 abbrev pub judged : ℕ → ℕ → ℕ → ℕ → ℕ → ℕ → Movement → Result (Unit {0}) BookRefusal
 judged accounts resources had held has left v =
-    first_of (
+    first_refusal (
     (not (named accounts resources v), Outside)
     ∷ (((v.quantity == 0), Quantity)
     ∷ ((nat_lt (had - held) v.quantity, NotFree)

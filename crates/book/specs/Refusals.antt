@@ -17,6 +17,6 @@ abbrev pub Condition : Type 0 → Type 0
 Condition E = Bool × E
 
 -- the refusal of the first condition that holds, or none
-abbrev pub first_of : {E : Type 0} → List (Condition E) → Result (Unit {0}) E
-first_of [] = Ok tt
-first_of (c ∷ cs) = cond c.0 (Err c.1) (first_of cs)
+abbrev pub first_refusal : {E : Type 0} → List (Condition E) → Result (Unit {0}) E
+first_refusal [] = Ok tt
+first_refusal (c ∷ cs) = cond c.0 (Err c.1) (first_refusal cs)

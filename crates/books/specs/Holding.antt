@@ -2,7 +2,7 @@
 use Rattle.std.specs.Prelude.{ℕ, ◌+◌, min, Bool, cond, not, ◌&&◌, List, [], ◌∷◌, is_ok, Result, ◌==◌, nat_lt}
 use Rattle.book.specs.declared.refusal.BookRefusal.{BookRefusal}
 use Rattle.book.specs.declared.refusal.BookRefusal.TheVariants.{Outside, Quantity, NoRow}
-use Rattle.book.specs.Refusals.{first_of}
+use Rattle.book.specs.Refusals.{first_refusal}
 use Rattle.book.specs.Meaning.{Meaning, within, limit}
 use Rattle.books.specs.declared.row.HoldRow.{HoldRow}
 use Rattle.books.specs.Rows.{named, free, row_of, any, replaced, held}
@@ -21,7 +21,7 @@ crowded rows a r q = not (q == 0) && (not (any (named a r) rows) && not (any fre
 -- the answer to holding back q of account a in resource r
 abbrev pub hold_verdict : Meaning → List HoldRow → ℕ → ℕ → ℕ → Result (Unit {0}) BookRefusal
 hold_verdict m rows a r q =
-    first_of ((not (within m a r), Outside) ∷ ((nat_lt limit q, Quantity) ∷ ((crowded rows a r q, NoRow) ∷ [])))
+    first_refusal ((not (within m a r), Outside) ∷ ((nat_lt limit q, Quantity) ∷ ((crowded rows a r q, NoRow) ∷ [])))
 
 -- the row that names them is replaced, or else, where something is to be held back, a free row is taken
 abbrev pub rows_with : List HoldRow → ℕ → ℕ → ℕ → List HoldRow

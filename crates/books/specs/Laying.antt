@@ -3,7 +3,7 @@ use Rattle.std.specs.Prelude.{◌≡◌, ℕ, ◌+◌, ◌-◌, ◌*◌, ◌<◌
 use Rattle.book.specs.declared.movement.Movement.{Movement}
 use Rattle.book.specs.declared.refusal.BookRefusal.{BookRefusal}
 use Rattle.book.specs.declared.refusal.BookRefusal.TheVariants.{Outside, Unfit}
-use Rattle.book.specs.Refusals.{first_of}
+use Rattle.book.specs.Refusals.{first_refusal}
 use Rattle.book.specs.Meaning.{Meaning, limit}
 use Rattle.book.specs.Moving.{verdict}
 
@@ -41,7 +41,7 @@ Passed (Err _) A R xs = Unit {0}
 
 -- the answer to an amount q that is stated for account a and resource r, in a memory of n amounts
 abbrev pub stated_verdict : ℕ → ℕ → ℕ → ℕ → ℕ → ℕ → Result (Unit {0}) BookRefusal
-stated_verdict A R n a r q = first_of ((not (nat_lt a A && (nat_lt r R && nat_lt (a * R + r) n)), Outside) ∷ ((nat_lt limit q, Unfit) ∷ []))
+stated_verdict A R n a r q = first_refusal ((not (nat_lt a A && (nat_lt r R && nat_lt (a * R + r) n)), Outside) ∷ ((nat_lt limit q, Unfit) ∷ []))
 
 -- ── the book that is opened ──
 

@@ -11,7 +11,7 @@ use Rattle.sides.specs.declared.day_end.DaySheet.{DaySheet}
 use Rattle.sides.specs.declared.refusal.Refusal.{Refusal}
 use Rattle.sides.specs.declared.refusal.Refusal.TheVariants.{WrongPhase}
 use Rattle.std.specs.Result.{result_map_both}
-use Rattle.book.specs.Refusals.{first_of}
+use Rattle.book.specs.Refusals.{first_refusal}
 use Rattle.sides.specs.DayEnd.{in_day, in_phase, owed, open_verdict, opening, opened, lifted}
 use Rattle.law.specs.World.{World, state_of}
 use Rattle.law.specs.Plans.{Plan, asis}
@@ -32,7 +32,7 @@ use Rattle.sides.specs.declared.refusal.Refusal.TheVariants.{Broken, OutOfRange}
 use Rattle.sides.specs.DayEnd.{on_date, close_verdict, closing, closed}
 use Rattle.law.specs.World.{world_of}
 use Rattle.law.specs.Slips.{lines_by, issues}
-use Rattle.law.specs.Changes.{grown as grownChange}
+use Rattle.law.specs.Changes.{grown as grown_change}
 use Rattle.law.specs.Plans.{carried}
 use Rattle.law.specs.Calls.{close_day_end, close_refusals, close_plan}
 use Rattle.calls.specs.Clauses.{closed_by}
@@ -68,8 +68,8 @@ open_ran w None e = go w.head.phase refl
     plan : Plan
     plan = record { date = w.head.date; phase = DayEnd; change = none; slips = []; sharing = asis; alert = false }
 
-    verdict : (p : Phase) → w.head.phase ≡ p → open_verdict w.head ≡ first_of ((not (in_day p), WrongPhase) ∷ [])
-    verdict p e = ap (λ x. first_of ((not (in_day x), WrongPhase) ∷ [])) e
+    verdict : (p : Phase) → w.head.phase ≡ p → open_verdict w.head ≡ first_refusal ((not (in_day p), WrongPhase) ∷ [])
+    verdict p e = ap (λ x. first_refusal ((not (in_day x), WrongPhase) ∷ [])) e
 
     go : (p : Phase) → w.head.phase ≡ p → Ran sheet_by open_day_end w (opening w.head) (with_head w (opened w.head))
     go DayEnd p =
@@ -127,7 +127,7 @@ grown_table w s days =
     ap (λ k. map (grown days) us ++ replicate (n - k) no_deal) same ∙ ap (λ zs. map (grown days) us ++ zs) (sym rest)
 
 close_world : (w : World) (s : Sound w.book.accounts w.book.resources w.head w.deals w.lines) (date days : ℕ)
-    → world_of (carried (state_of w) (record { date = date; phase = Day; change = grownChange days; slips = []; sharing = asis; alert = false }))
+    → world_of (carried (state_of w) (record { date = date; phase = Day; change = grown_change days; slips = []; sharing = asis; alert = false }))
     ≡ record { head = in_phase Day (on_date date w.head); deals = map (grown days) (take w.head.used.deals w.deals) ++ drop w.head.used.deals w.deals; lines = w.lines; book = w.book }
 unfolding carried lines_by issues run
 close_world w s date days =
@@ -161,16 +161,16 @@ close_told w date sheet accounts resources most a b f r e h c ds d = go (close_v
     s = sound_from w.book.accounts w.book.resources w.head w.deals w.lines none'
 
     plan : Plan
-    plan = record { date = date; phase = Day; change = grownChange (date - w.head.date); slips = []; sharing = asis; alert = false }
+    plan = record { date = date; phase = Day; change = grown_change (date - w.head.date); slips = []; sharing = asis; alert = false }
 
     -- a stated date is one that is counted
     and_true : (b : Bool) → (b && true) ≡ b
     and_true true = refl
     and_true false = refl
 
-    same_tests : close_verdict w.head date ≡ first_of (close_refusals (state_of w) date)
+    same_tests : close_verdict w.head date ≡ first_refusal (close_refusals (state_of w) date)
     same_tests =
-        ap (λ t. first_of ((in_day w.head.phase, WrongPhase) ∷ ((not (leb (w.head.date + 1) date && t), OutOfRange) ∷ [])))
+        ap (λ t. first_refusal ((in_day w.head.phase, WrongPhase) ∷ ((not (leb (w.head.date + 1) date && t), OutOfRange) ∷ [])))
         (sym (ap (λ t. leb date (w.head.date + most_days) && t) (le-leb date 65_535 most) ∙ and_true (leb date (w.head.date + most_days))))
 
     out : outcome (close_day_end date) w ≡ passed 0 (state_of w) (or_plan (close_verdict w.head date) plan)

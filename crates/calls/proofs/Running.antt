@@ -19,7 +19,7 @@ use Rattle.law.specs.Past.{Past, called, recorded}
 use Rattle.law.proofs.Theorems.{every_past_agrees}
 use Rattle.book.specs.declared.movement.RefusedAt.{RefusedAt}
 use Rattle.book.specs.Lists.{rehearsed}
-use Rattle.book.specs.Refusals.{first_of}
+use Rattle.book.specs.Refusals.{first_refusal}
 use Rattle.drafts.specs.Drafts.{movable, by_book}
 use Rattle.sides.specs.declared.refusal.Refusal.TheVariants.{NoRows, NoNumbers, NoSlips}
 use Rattle.law.specs.Slips.{movements_of}
@@ -45,14 +45,14 @@ refused_leaves c w e q = sym (ap (world_by w) q)
 pub broken_outcome : (c : Call) (w : World) (f : Fault) → Some f ≡ fault_of w.book.accounts w.book.resources w.head w.deals w.lines → outcome c w ≡ Err (Broken f)
 unfolding outcome
 broken_outcome c w f e =
-    ap (λ o. Rattle.law.specs.Outcomes.or_broken (Rattle.memory.specs.Sound.first_of o (prices_fault w.book.resources (prices_of c))) (Rattle.law.specs.Outcomes.passed (places_of c) (state_of w) (plan_of c (state_of w)))) (sym e)
+    ap (λ o. Rattle.law.specs.Outcomes.or_broken (Rattle.memory.specs.Sound.first_found o (prices_fault w.book.resources (prices_of c))) (Rattle.law.specs.Outcomes.passed (places_of c) (state_of w) (plan_of c (state_of w)))) (sym e)
 
 -- where nothing is broken, the plan or its refusal
 pub sound_outcome : (c : Call) (w : World) → None ≡ fault_of w.book.accounts w.book.resources w.head w.deals w.lines → None ≡ prices_fault w.book.resources (prices_of c)
     → outcome c w ≡ Rattle.law.specs.Outcomes.passed (places_of c) (state_of w) (plan_of c (state_of w))
 unfolding outcome
 sound_outcome c w e p =
-    ap (λ o. Rattle.law.specs.Outcomes.or_broken (Rattle.memory.specs.Sound.first_of o (prices_fault w.book.resources (prices_of c))) (Rattle.law.specs.Outcomes.passed (places_of c) (state_of w) (plan_of c (state_of w)))) (sym e)
+    ap (λ o. Rattle.law.specs.Outcomes.or_broken (Rattle.memory.specs.Sound.first_found o (prices_fault w.book.resources (prices_of c))) (Rattle.law.specs.Outcomes.passed (places_of c) (state_of w) (plan_of c (state_of w)))) (sym e)
     ∙ ap (λ o. Rattle.law.specs.Outcomes.or_broken o (Rattle.law.specs.Outcomes.passed (places_of c) (state_of w) (plan_of c (state_of w)))) (sym p)
 
 -- ── the rows that stand ──
@@ -102,8 +102,8 @@ slips_pass w places p ds ls nd nl =
     let b : ltb (length w.lines) (length (lines_after (state_of w) p)) ≡ false = le-ltb _ _ ls in
     let c : ltb most_number (w.head.next.deal + numbers_by p.change) ≡ false = le-ltb _ _ nd in
     let d : ltb most_number (w.head.next.line + issues p.slips) ≡ false = le-ltb _ _ nl in
-    ap (λ t. or_book (first_of ((t, NoRows) ∷ ((ltb most_number (w.head.next.deal + numbers_by p.change) || ltb most_number (w.head.next.line + issues p.slips), NoNumbers) ∷ ((ltb places (length p.slips), NoSlips) ∷ [])))) (rehearsed w.book (movements_of p.slips))) (or_from _ _ a b)
-    ∙ ap (λ t. or_book (first_of ((t, NoNumbers) ∷ ((ltb places (length p.slips), NoSlips) ∷ []))) (rehearsed w.book (movements_of p.slips))) (or_from _ _ c d)
+    ap (λ t. or_book (first_refusal ((t, NoRows) ∷ ((ltb most_number (w.head.next.deal + numbers_by p.change) || ltb most_number (w.head.next.line + issues p.slips), NoNumbers) ∷ ((ltb places (length p.slips), NoSlips) ∷ [])))) (rehearsed w.book (movements_of p.slips))) (or_from _ _ a b)
+    ∙ ap (λ t. or_book (first_refusal ((t, NoNumbers) ∷ ((ltb places (length p.slips), NoSlips) ∷ []))) (rehearsed w.book (movements_of p.slips))) (or_from _ _ c d)
     ∙ either (ltb places (length p.slips)) (rehearsed w.book (movements_of p.slips))
   where
     either : (t : Bool) (r : Result (Unit {0}) RefusedAt) → or_book (cond t (Err NoSlips) (Ok tt)) r ≡ cond t (Err NoSlips) (by_book r)

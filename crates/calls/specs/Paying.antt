@@ -24,33 +24,33 @@ abbrev pub interest_slips : Deal → List Slip
 interest_slips d = cash_slips Pay d 0 d.giver d.taker d.whole
 
 module _ (h : Head) (deals : List Deal) (lines : List Line) (m : Meaning) (list : List Slip) (n : ℕ) where
-  abbrev pub payAt : Option ℕ → Result (Unit {0}) Refusal
-  payAt None = Err NotStanding
-  payAt (Some i) = cond (has_lines n (used_lines h lines)) (Err LinesStand) (movable m (interest_slips (slice_index_or deals i no_deal)) (length list))
+  abbrev pub pay_at : Option ℕ → Result (Unit {0}) Refusal
+  pay_at None = Err NotStanding
+  pay_at (Some i) = cond (has_lines n (used_lines h lines)) (Err LinesStand) (movable m (interest_slips (slice_index_or deals i no_deal)) (length list))
 
-  abbrev pub payVerdict : Option ℕ → Result (Unit {0}) Refusal
-  payVerdict place = cond (in_day h.phase) (payAt place) (Err WrongPhase)
+  abbrev pub pay_verdict : Option ℕ → Result (Unit {0}) Refusal
+  pay_verdict place = cond (in_day h.phase) (pay_at place) (Err WrongPhase)
 
-  abbrev pub paidAt : Option ℕ → Deal
-  paidAt None = no_deal
-  paidAt (Some i) = slice_index_or deals i no_deal
+  abbrev pub paid_at : Option ℕ → Deal
+  paid_at None = no_deal
+  paid_at (Some i) = slice_index_or deals i no_deal
 
   abbrev pub row_of : Option ℕ → ℕ
   row_of None = 0
   row_of (Some i) = i
 
   -- what is answered, and what then stands
-  abbrev pub payAnswer : Option ℕ → Result ℕ Refusal
-  payAnswer o = result_map_both (λ _. length (interest_slips (paidAt o))) (λ e. e) (payVerdict o)
+  abbrev pub pay_answer : Option ℕ → Result ℕ Refusal
+  pay_answer o = result_map_both (λ _. length (interest_slips (paid_at o))) (λ e. e) (pay_verdict o)
 
-  abbrev pub payHead : Option ℕ → Head
-  payHead o = cond (is_ok (payVerdict o)) (using_deals (h.used.deals - 1) h) h
+  abbrev pub pay_head : Option ℕ → Head
+  pay_head o = cond (is_ok (pay_verdict o)) (using_deals (h.used.deals - 1) h) h
 
-  abbrev pub payDeals : Option ℕ → List Deal
-  payDeals o = cond (is_ok (payVerdict o)) (without no_deal h.used.deals (row_of o) deals) deals
+  abbrev pub pay_deals : Option ℕ → List Deal
+  pay_deals o = cond (is_ok (pay_verdict o)) (without no_deal h.used.deals (row_of o) deals) deals
 
-  abbrev pub payList : Option ℕ → List Slip
-  payList o = cond (is_ok (payVerdict o)) (listed (interest_slips (paidAt o)) list) list
+  abbrev pub pay_list : Option ℕ → List Slip
+  pay_list o = cond (is_ok (pay_verdict o)) (listed (interest_slips (paid_at o)) list) list
 
-  abbrev pub payBook : Option ℕ → Meaning
-  payBook o = cond (is_ok (payVerdict o)) (run m (movements_of (interest_slips (paidAt o)))) m
+  abbrev pub pay_book : Option ℕ → Meaning
+  pay_book o = cond (is_ok (pay_verdict o)) (run m (movements_of (interest_slips (paid_at o)))) m

@@ -1,9 +1,9 @@
 //! A deal's rate and return day replaced.
 ghost use Rattle.std.specs.Prelude.{◌≡◌, ◌≤◌, length};
 ghost use Rattle.memory.specs.Places.{Rising, place_of, deal_numbers};
-ghost use Rattle.law.specs.Calls.{amend as amendCall};
+ghost use Rattle.law.specs.Calls.{amend as amend_call};
 ghost use Rattle.law.specs.Outcomes.{outcome, after};
-ghost use Rattle.calls.specs.Amending.{amendable, amendVerdict, amendedRows};
+ghost use Rattle.calls.specs.Amending.{amendable, amend_verdict, amended_rows};
 ghost use Rattle.calls.specs.Clauses.{lent, verdict_by, GoesOn};
 
 use book::Book;
@@ -25,8 +25,8 @@ fn amend_sound(
     due: u16,
 ) -> Result<(), Refusal>
     requires { Rising (deal_numbers head.now deals.old) }
-    ensures answer { result ≡ amendVerdict head.now deals.old rate due (place_of number (deal_numbers head.now deals.old)) }
-    ensures deals { deals.new ≡ amendedRows head.now deals.old rate due (place_of number (deal_numbers head.now deals.old)) }
+    ensures answer { result ≡ amend_verdict head.now deals.old rate due (place_of number (deal_numbers head.now deals.old)) }
+    ensures deals { deals.new ≡ amended_rows head.now deals.old rate due (place_of number (deal_numbers head.now deals.old)) }
 {
     if let Phase::DayEnd = head.phase {
         return Err(Refusal::WrongPhase);
@@ -54,9 +54,9 @@ pub fn amend<B: Book>(
     rate: u32,
     due: u16,
 ) -> Result<(), Refusal>
-    ensures answer { result ≡ verdict_by (outcome (amendCall number rate due) (lent head.now deals.old lines.now (B.Book.meaning book.now))) }
-    ensures world { lent head.now deals.new lines.now (B.Book.meaning book.now) ≡ after (amendCall number rate due) (lent head.now deals.old lines.now (B.Book.meaning book.now)) }
-    ensures law { GoesOn (amendCall number rate due) (lent head.now deals.old lines.now (B.Book.meaning book.now)) (lent head.now deals.new lines.now (B.Book.meaning book.now)) }
+    ensures answer { result ≡ verdict_by (outcome (amend_call number rate due) (lent head.now deals.old lines.now (B.Book.meaning book.now))) }
+    ensures world { lent head.now deals.new lines.now (B.Book.meaning book.now) ≡ after (amend_call number rate due) (lent head.now deals.old lines.now (B.Book.meaning book.now)) }
+    ensures law { GoesOn (amend_call number rate due) (lent head.now deals.old lines.now (B.Book.meaning book.now)) (lent head.now deals.new lines.now (B.Book.meaning book.now)) }
 {
     if let Some(broken) = fault(head, deals, lines, book.accounts(), book.resources()) {
         return Err(Refusal::Broken(broken));

@@ -7,10 +7,10 @@ ghost use Rattle.memory.specs.Places.{Rising, place_of, deal_numbers};
 ghost use Rattle.memory.specs.Rows.{no_deal};
 ghost use Rattle.memory.specs.Sound.{used_lines};
 ghost use Rattle.tables.specs.Rows.{without, using_deals};
-ghost use Rattle.law.specs.Calls.{has_lines, pay as payCall};
+ghost use Rattle.law.specs.Calls.{has_lines, pay as pay_call};
 ghost use Rattle.law.specs.Outcomes.{outcome, after, written, listed};
 ghost use Rattle.calls.specs.Clauses.{lent, count_by, GoesOn};
-ghost use Rattle.calls.specs.Paying.{interest_slips, payAnswer, payHead, payDeals, payList, payBook};
+ghost use Rattle.calls.specs.Paying.{interest_slips, pay_answer, pay_head, pay_deals, pay_list, pay_book};
 
 use book::Book;
 use drafts::{Draft, move_slips};
@@ -90,11 +90,11 @@ fn pay_sound<B: Book>(
     number: u32,
 ) -> Result<usize, Refusal>
     requires { (Rising (deal_numbers head.old deals.old)) × ((head.old.used.deals ≤ length deals.old) × ((length deals.old ≤ 64) × (head.old.used.lines ≤ length lines.now))) }
-    ensures answer { result ≡ payAnswer head.old deals.old lines.now (B.Book.meaning book.old) list.old number (place_of number (deal_numbers head.old deals.old)) }
-    ensures head { head.new ≡ payHead head.old deals.old lines.now (B.Book.meaning book.old) list.old number (place_of number (deal_numbers head.old deals.old)) }
-    ensures deals { deals.new ≡ payDeals head.old deals.old lines.now (B.Book.meaning book.old) list.old number (place_of number (deal_numbers head.old deals.old)) }
-    ensures list { list.new ≡ payList head.old deals.old lines.now (B.Book.meaning book.old) list.old number (place_of number (deal_numbers head.old deals.old)) }
-    ensures book { B.Book.meaning book.new ≡ payBook head.old deals.old lines.now (B.Book.meaning book.old) list.old number (place_of number (deal_numbers head.old deals.old)) }
+    ensures answer { result ≡ pay_answer head.old deals.old lines.now (B.Book.meaning book.old) list.old number (place_of number (deal_numbers head.old deals.old)) }
+    ensures head { head.new ≡ pay_head head.old deals.old lines.now (B.Book.meaning book.old) list.old number (place_of number (deal_numbers head.old deals.old)) }
+    ensures deals { deals.new ≡ pay_deals head.old deals.old lines.now (B.Book.meaning book.old) list.old number (place_of number (deal_numbers head.old deals.old)) }
+    ensures list { list.new ≡ pay_list head.old deals.old lines.now (B.Book.meaning book.old) list.old number (place_of number (deal_numbers head.old deals.old)) }
+    ensures book { B.Book.meaning book.new ≡ pay_book head.old deals.old lines.now (B.Book.meaning book.old) list.old number (place_of number (deal_numbers head.old deals.old)) }
     ensures stays { B.Book.home book.new ≡ B.Book.home book.old }
 {
     if let Phase::DayEnd = head.phase {
@@ -118,11 +118,11 @@ pub fn pay<B: Book>(
     book: &mut B,
     number: u32,
 ) -> Result<usize, Refusal>
-    ensures answer { result ≡ count_by (outcome (payCall (length list.old) number) (lent head.old deals.old lines.now (B.Book.meaning book.old))) }
-    ensures world { lent head.new deals.new lines.now (B.Book.meaning book.new) ≡ after (payCall (length list.old) number) (lent head.old deals.old lines.now (B.Book.meaning book.old)) }
-    ensures slips { list.new ≡ listed (written (payCall (length list.old) number) (lent head.old deals.old lines.now (B.Book.meaning book.old))) list.old }
+    ensures answer { result ≡ count_by (outcome (pay_call (length list.old) number) (lent head.old deals.old lines.now (B.Book.meaning book.old))) }
+    ensures world { lent head.new deals.new lines.now (B.Book.meaning book.new) ≡ after (pay_call (length list.old) number) (lent head.old deals.old lines.now (B.Book.meaning book.old)) }
+    ensures slips { list.new ≡ listed (written (pay_call (length list.old) number) (lent head.old deals.old lines.now (B.Book.meaning book.old))) list.old }
     ensures stays { B.Book.home book.new ≡ B.Book.home book.old }
-    ensures law { GoesOn (payCall (length list.old) number) (lent head.old deals.old lines.now (B.Book.meaning book.old)) (lent head.new deals.new lines.now (B.Book.meaning book.new)) }
+    ensures law { GoesOn (pay_call (length list.old) number) (lent head.old deals.old lines.now (B.Book.meaning book.old)) (lent head.new deals.new lines.now (B.Book.meaning book.new)) }
 {
     if let Some(broken) = fault(head, deals, lines, book.accounts(), book.resources()) {
         return Err(Refusal::Broken(broken));

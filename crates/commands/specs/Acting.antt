@@ -5,7 +5,7 @@ use Rattle.memory.specs.declared.row.Deal.{Deal}
 use Rattle.memory.specs.declared.row.Head.{Head}
 use Rattle.memory.specs.declared.row.Line.{Line}
 use Rattle.panel.specs.declared.refusal.PanelRefusal.{PanelRefusal}
-use Rattle.panel.specs.Asking.{owedTo}
+use Rattle.panel.specs.Asking.{owed_to}
 use Rattle.register_script.specs.declared.command.RegisterCommand.{RegisterCommand}
 use Rattle.register_script.specs.declared.command.RegisterCommand.TheVariants.{Price, Giver, Taker, Match, Withdraw, Panel, Poke, Call}
 use Rattle.valuation.specs.declared.price.Price.{Price as PriceRecord}
@@ -27,7 +27,7 @@ act_answer m h ds ls ps held (Giver t) = side_answer t
 act_answer m h ds ls ps held (Taker t) = side_answer t
 act_answer m h ds ls ps held Match = match_answer held
 act_answer m h ds ls ps held Withdraw = Accepted
-act_answer m h ds ls ps held (Panel a) = panel_answer (owedTo m h ds ls a)
+act_answer m h ds ls ps held (Panel a) = panel_answer (owed_to m h ds ls a)
 act_answer m h ds ls ps held (Poke p) = poke_answer p.target p.value h ds ls
 act_answer m h ds ls ps held (Call c) = Misplaced
 

@@ -1,6 +1,6 @@
 //! What a command does to a register that stands.
 ghost use Rattle.std.specs.Prelude.{◌≡◌};
-ghost use Rattle.panel.specs.Asking.{owedTo};
+ghost use Rattle.panel.specs.Asking.{owed_to};
 ghost use Rattle.commands.specs.Acting.{panel_answer, act_answer, head_after, deals_after, lines_after, prices_after, held_after};
 ghost use Rattle.commands.specs.Hands.{held};
 
@@ -15,7 +15,7 @@ use register_script::RegisterCommand;
 use valuation::Price;
 
 fn look<B: Book>(book: &B, head: &Head, deals: &[Deal], lines: &[Line], account: u32) -> Answer
-    ensures { result ≡ panel_answer (owedTo (B.Book.meaning book.now) head.now deals.now lines.now account) }
+    ensures { result ≡ panel_answer (owed_to (B.Book.meaning book.now) head.now deals.now lines.now account) }
 {
     match still_to_come_back(book, head, deals, lines, account) {
         Ok(_) => Answer::Accepted,

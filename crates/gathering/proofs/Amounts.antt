@@ -9,7 +9,7 @@ use Rattle.valuation.specs.Most.{most_units}
 use Rattle.valuation.proofs.Bests.{largest_is}
 use Rattle.valuation.proofs.Quantities.{smallest_reaching, one_less, none_reaching}
 use Rattle.gathering.specs.declared.order.Order.{Order}
-use Rattle.gathering.specs.Taking.{within_limit, taken_for, eligible, value_of, security_at, most_of, passedOver}
+use Rattle.gathering.specs.Taking.{within_limit, taken_for, eligible, value_of, security_at, most_of, passed_over}
 
 -- t is taken of at most n for a need
 pub record Takes (w : ℕ → ℕ) (need n t : ℕ) : Type 0 where
@@ -47,7 +47,7 @@ pub record Takeable (m : Meaning) (w : ℕ → ℕ) (o : Order) (held : List ℕ
   pub limited : o.limit ≡ true → w n + get_or held k 0 ≤ o.target / 10
 
 module _ (m : Meaning) (worth : ℕ → ℕ → ℕ → ℕ) (o : Order) (held : List ℕ) (p : Price) (k : ℕ) where
-  pub takeable_is : ((price haircut a b : ℕ) → a ≤ b → worth price haircut a ≤ worth price haircut b) → passedOver m worth o held p k ≡ false → Takeable m (value_of worth o p) o held p k (most_of m worth o held p k)
+  pub takeable_is : ((price haircut a b : ℕ) → a ≤ b → worth price haircut a ≤ worth price haircut b) → passed_over m worth o held p k ≡ false → Takeable m (value_of worth o p) o held p k (most_of m worth o held p k)
   takeable_is more taken =
       let w = value_of worth o p in
       let n = min most_units (free m o.giver (security_at k)) in

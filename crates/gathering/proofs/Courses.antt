@@ -11,7 +11,7 @@ use Rattle.valuation.specs.Prices.{no_price}
 use Rattle.gathering.specs.declared.order.Order.{Order}
 use Rattle.gathering.specs.declared.order.Pick.{Pick}
 use Rattle.gathering.specs.Baskets.{most_picks}
-use Rattle.gathering.specs.Taking.{eligible, value_of, security_at, most_of, passedOver, quantityFor}
+use Rattle.gathering.specs.Taking.{eligible, value_of, security_at, most_of, passed_over, quantity_for}
 use Rattle.gathering.specs.Gathered.{pick_of, gathered_from, gathered}
 use Rattle.gathering.specs.Law.{record_of, worth_in, most_in, Allowed, total, value_of_all, Rising, takeable_from, Ends, Covers, Fails}
 use Rattle.gathering.proofs.Amounts.{Takes, takes, Takeable, takeable_is}
@@ -74,10 +74,10 @@ module _ (m : Meaning) (worth : ℕ → ℕ → ℕ → ℕ) (qs : List Price) (
   fails_full k need count ps h full = let none : most_picks - count ≡ 0 = omega arith in rw none (omega arith)
 
   -- the security of record p stands at place k, and is passed over
-  module _ (k : ℕ) (p : Price) (ps : List Price) (passed : passedOver m worth o held p k ≡ true) where
+  module _ (k : ℕ) (p : Price) (ps : List Price) (passed : passed_over m worth o held p k ≡ true) where
     takeable_passed : takeable_from m worth o held k (p ∷ ps) ≡ takeable_from m worth o held (k + 1) ps
     unfolding takeable_from
-    takeable_passed = cond-true (passedOver m worth o held p k) _ _ passed
+    takeable_passed = cond-true (passed_over m worth o held p k) _ _ passed
 
     covers_passed : (need count : ℕ) (picks : List Pick) → CoversFrom (k + 1) need count ps picks → CoversFrom k need count (p ∷ ps) picks
     covers_passed need count picks c =
@@ -96,7 +96,7 @@ module _ (m : Meaning) (worth : ℕ → ℕ → ℕ → ℕ) (qs : List Price) (
 
   -- or t of it is taken
   module _ (none : (price haircut : ℕ) → worth price haircut 0 ≡ 0) (more : (price haircut a b : ℕ) → a ≤ b → worth price haircut a ≤ worth price haircut b)
-      (k need count : ℕ) (p : Price) (ps : List Price) (listed : k < length qs) (is : get_or qs k no_price ≡ p) (pos : 0 < need) (room : count < most_picks) (taken : passedOver m worth o held p k ≡ false) where
+      (k need count : ℕ) (p : Price) (ps : List Price) (listed : k < length qs) (is : get_or qs k no_price ≡ p) (pos : 0 < need) (room : count < most_picks) (taken : passed_over m worth o held p k ≡ false) where
     abbrev w : ℕ → ℕ
     w = value_of worth o p
 
@@ -104,7 +104,7 @@ module _ (m : Meaning) (worth : ℕ → ℕ → ℕ → ℕ) (qs : List Price) (
     n = most_of m worth o held p k
 
     abbrev t : ℕ
-    t = quantityFor m worth o held p k need
+    t = quantity_for m worth o held p k need
 
     place : security_at k - 3 ≡ k
     place = omega arith
@@ -140,7 +140,7 @@ module _ (m : Meaning) (worth : ℕ → ℕ → ℕ → ℕ) (qs : List Price) (
 
     takeable_taken : takeable_from m worth o held k (p ∷ ps) ≡ (security_at k ∷ takeable_from m worth o held (k + 1) ps)
     unfolding takeable_from
-    takeable_taken = cond-false (passedOver m worth o held p k) _ _ taken
+    takeable_taken = cond-false (passed_over m worth o held p k) _ _ taken
 
     -- the last pick covers what is open, and one before it is the most
     ends_taken : (xs : List Pick) → CoversFrom (k + 1) (need - w t) (count + 1) ps xs → (before : List Pick) (last : Pick) → (pick_of (security_at k) t ∷ xs) ≡ before ++ (last ∷ []) → Ends m worth qs o held need before last
@@ -185,14 +185,14 @@ module _ (m : Meaning) (worth : ℕ → ℕ → ℕ → ℕ) (qs : List Price) (
     from_stands k need count (p ∷ ps) e few =
         let P : Option (List Pick) → Type 0 = λ a. MatchOption a (FailsFrom k need count (p ∷ ps)) (CoversFrom k need count (p ∷ ps)) in
         let at-k = dropped_first qs k p ps e in
-        let t = quantityFor m worth o held p k need in
+        let t = quantity_for m worth o held p k need in
         cond_both (eqb need 0) (Some []) _ P
         (λ h. covers_none k need count (p ∷ ps) (eqb-true need 0 h) few)
         (λ h. let pos : need ≡ 0 → ⊥ = eqb-false need 0 h in
         cond_both (leb most_picks count) None _ P
         (λ full. fails_full k need count (p ∷ ps) pos (leb-true most_picks count full))
         (λ room. let below : count < most_picks = leb-false most_picks count room in
-        cond_both (passedOver m worth o held p k) _ _ P
+        cond_both (passed_over m worth o held p k) _ _ P
         (λ passed. cases_map (gathered_from m worth o held (k + 1) need count ps) _ _ _ _ (fails_passed k p ps passed need count) (covers_passed k p ps passed need count)
         (from_stands (k + 1) need count ps at-k.2 few))
         (λ taken.

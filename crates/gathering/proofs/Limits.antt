@@ -7,7 +7,7 @@ use Rattle.valuation.specs.Best.{largest_up_to}
 use Rattle.valuation.specs.Most.{most_units}
 use Rattle.valuation.proofs.Bests.{largest_here, largest_is, largest_le}
 use Rattle.gathering.specs.declared.order.Order.{Order}
-use Rattle.gathering.specs.Taking.{within_limit, most_within, value_of, security_at, takenAt}
+use Rattle.gathering.specs.Taking.{within_limit, most_within, value_of, security_at, taken_at}
 
 module _ (o : Order) (w : ℕ → ℕ) (beside n : ℕ) where
   -- without the limit all may be taken
@@ -22,7 +22,7 @@ module _ (o : Order) (w : ℕ → ℕ) (beside n : ℕ) where
       z ∙ sym ((largest_is (within_limit o w beside) n).none (λ k h. grind (arith, nat_tests)))
 
 -- no book has a security at a place that has no number
-pub beyond_book : (m : Meaning) (worth : ℕ → ℕ → ℕ → ℕ) (o : Order) (held : List ℕ) (p : Price) (k need : ℕ) → Lawful m → None ≡ cond (ltb k 125) (Some (security_at k)) None → None ≡ takenAt m worth o held p k need
+pub beyond_book : (m : Meaning) (worth : ℕ → ℕ → ℕ → ℕ) (o : Order) (held : List ℕ) (p : Price) (k need : ℕ) → Lawful m → None ≡ cond (ltb k 125) (Some (security_at k)) None → None ≡ taken_at m worth o held p k need
 beyond_book m worth o held p k need lawful e =
     let w = value_of worth o p in
     let far : 125 ≤ k = grind (arith, nat_tests) in

@@ -10,7 +10,7 @@ use Rattle.gathering.specs.declared.order.Order.{Order}
 use Rattle.gathering.specs.declared.order.Pick.{Pick}
 use Rattle.gathering.specs.declared.taking.Taken.{Taken}
 use Rattle.gathering.specs.Baskets.{most_picks}
-use Rattle.gathering.specs.Taking.{takenAt}
+use Rattle.gathering.specs.Taking.{taken_at}
 use Rattle.gathering.specs.Gathered.{gathered_from, gathered, completed}
 
 mapped_after : (xs : List Pick) (x : Pick) (o : Option (List Pick)) → option_map (λ more. (xs ++ (x ∷ [])) ++ more) o ≡ option_map (λ more. xs ++ more) (option_map (λ more. x ∷ more) o)
@@ -35,11 +35,11 @@ module _ (m : Meaning) (worth : ℕ → ℕ → ℕ → ℕ) (o : Order) (held :
   from_full k need count (p ∷ ps) h full = grind (arith, nat_tests)
 
   -- the record at k is passed over, or something is taken of its security
-  from_passed : (k need count : ℕ) (p : Price) (ps : List Price) → (need ≡ 0 → ⊥) → count < most_picks → None ≡ takenAt m worth o held p k need → gathered_from m worth o held k need count (p ∷ ps) ≡ gathered_from m worth o held (k + 1) need count ps
+  from_passed : (k need count : ℕ) (p : Price) (ps : List Price) → (need ≡ 0 → ⊥) → count < most_picks → None ≡ taken_at m worth o held p k need → gathered_from m worth o held k need count (p ∷ ps) ≡ gathered_from m worth o held (k + 1) need count ps
   unfolding gathered_from
   from_passed k need count p ps h few none = grind (arith, nat_tests)
 
-  from_taken : (k need count : ℕ) (p : Price) (ps : List Price) (t : Taken) → (need ≡ 0 → ⊥) → count < most_picks → Some t ≡ takenAt m worth o held p k need
+  from_taken : (k need count : ℕ) (p : Price) (ps : List Price) (t : Taken) → (need ≡ 0 → ⊥) → count < most_picks → Some t ≡ taken_at m worth o held p k need
       → gathered_from m worth o held k need count (p ∷ ps) ≡ option_map (λ more. t.pick ∷ more) (gathered_from m worth o held (k + 1) (need - t.worth) (count + 1) ps)
   unfolding gathered_from
   from_taken k need count p ps t h few some = grind (arith, nat_tests)
@@ -63,12 +63,12 @@ module _ (m : Meaning) (worth : ℕ → ℕ → ℕ → ℕ) (o : Order) (held :
       first : gathered_from m worth o held k need (length picks) (drop k ps) ≡ gathered_from m worth o held k need (length picks) (get_or ps k no_price ∷ drop (k + 1) ps)
       first = at_drop_more (gathered_from m worth o held k need (length picks)) ps k no_price listed
 
-      pub passed_more : None ≡ takenAt m worth o held (get_or ps k no_price) k need → completed m worth ps o held (k + 1) need picks ≡ completed m worth ps o held k need picks
+      pub passed_more : None ≡ taken_at m worth o held (get_or ps k no_price) k need → completed m worth ps o held (k + 1) need picks ≡ completed m worth ps o held k need picks
       unfolding completed
       passed_more none =
           ap (option_map (λ more. picks ++ more)) (sym (first ∙ from_passed k need (length picks) (get_or ps k no_price) (drop (k + 1) ps) h few none))
 
-      pub taken_more : (t : Taken) (need' : ℕ) (picks' : List Pick) → Some t ≡ takenAt m worth o held (get_or ps k no_price) k need → need' ≡ need - t.worth → picks' ≡ picks ++ (t.pick ∷ [])
+      pub taken_more : (t : Taken) (need' : ℕ) (picks' : List Pick) → Some t ≡ taken_at m worth o held (get_or ps k no_price) k need → need' ≡ need - t.worth → picks' ≡ picks ++ (t.pick ∷ [])
           → completed m worth ps o held (k + 1) need' picks' ≡ completed m worth ps o held k need picks
       unfolding completed
       taken_more t need' picks' some left put =

@@ -6,7 +6,7 @@ use Rattle.valuation.specs.declared.price.Price.{Price}
 use Rattle.gathering.specs.declared.order.Order.{Order}
 use Rattle.gathering.specs.declared.order.Pick.{Pick}
 use Rattle.gathering.specs.Baskets.{most_picks}
-use Rattle.gathering.specs.Taking.{value_of, security_at, passedOver, quantityFor}
+use Rattle.gathering.specs.Taking.{value_of, security_at, passed_over, quantity_for}
 
 abbrev pub pick_of : ℕ → ℕ → Pick
 pick_of s q = record { security = s; quantity = q }
@@ -17,9 +17,9 @@ gathered_from m worth o held k need count [] = cond (need == 0) (Some []) None
 gathered_from m worth o held k need count (p ∷ ps) =
     cond (need == 0) (Some [])
     (cond (nat_le most_picks count) None
-    (cond (passedOver m worth o held p k) (gathered_from m worth o held (k + 1) need count ps)
-    (option_map (λ picks. pick_of (security_at k) (quantityFor m worth o held p k need) ∷ picks)
-    (gathered_from m worth o held (k + 1) (need - value_of worth o p (quantityFor m worth o held p k need)) (count + 1) ps))))
+    (cond (passed_over m worth o held p k) (gathered_from m worth o held (k + 1) need count ps)
+    (option_map (λ picks. pick_of (security_at k) (quantity_for m worth o held p k need) ∷ picks)
+    (gathered_from m worth o held (k + 1) (need - value_of worth o p (quantity_for m worth o held p k need)) (count + 1) ps))))
 
 -- by a book's meaning, what a price, a haircut and a quantity are worth, the price list, the order, and what the deal's own lines in each security are worth
 unfoldable pub gathered : Meaning → (ℕ → ℕ → ℕ → ℕ) → List Price → Order → List ℕ → Option (List Pick)

@@ -8,7 +8,7 @@ use Rattle.valuation.specs.Prices.{no_price}
 use Rattle.gathering.specs.declared.order.Order.{Order}
 use Rattle.gathering.specs.declared.order.Pick.{Pick}
 use Rattle.gathering.specs.Baskets.{most_picks}
-use Rattle.gathering.specs.Taking.{eligible, value_of, security_at, most_of, passedOver}
+use Rattle.gathering.specs.Taking.{eligible, value_of, security_at, most_of, passed_over}
 
 -- ── by the number of a security ──
 
@@ -55,7 +55,7 @@ Rising (x ∷ xs) = Each (λ y. x.security < y.security) xs × Rising xs
 unfoldable pub takeable_from : Meaning → (ℕ → ℕ → ℕ → ℕ) → Order → List ℕ → ℕ → List Price → List ℕ
 takeable_from m worth o held k [] = []
 takeable_from m worth o held k (p ∷ ps) =
-    cond (passedOver m worth o held p k) (takeable_from m worth o held (k + 1) ps) (security_at k ∷ takeable_from m worth o held (k + 1) ps)
+    cond (passed_over m worth o held p k) (takeable_from m worth o held (k + 1) ps) (security_at k ∷ takeable_from m worth o held (k + 1) ps)
 
 abbrev pub takeable : Meaning → (ℕ → ℕ → ℕ → ℕ) → List Price → Order → List ℕ → List ℕ
 takeable m worth ps o held = takeable_from m worth o held 0 ps

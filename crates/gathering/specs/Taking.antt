@@ -45,15 +45,15 @@ module _ (m : Meaning) (worth : ℕ → ℕ → ℕ → ℕ) (o : Order) (held :
   abbrev pub most_of : ℕ
   most_of = cond (eligible o p) (most_within o (value_of worth o p) (slice_index held k) (free m o.giver (security_at k))) 0
 
-  abbrev pub passedOver : Bool
-  passedOver = worthless (value_of worth o p) most_of
+  abbrev pub passed_over : Bool
+  passed_over = worthless (value_of worth o p) most_of
 
   -- the quantity that is taken where a need is open
-  abbrev pub quantityFor : ℕ → ℕ
-  quantityFor need = taken_for (value_of worth o p) need most_of
+  abbrev pub quantity_for : ℕ → ℕ
+  quantity_for need = taken_for (value_of worth o p) need most_of
 
   -- the pick and what it is worth, or nothing
-  abbrev pub takenAt : ℕ → Option Taken
-  takenAt need =
-      cond passedOver None
-      (Some (record { pick = record { security = security_at k; quantity = quantityFor need }; worth = value_of worth o p (quantityFor need) }))
+  abbrev pub taken_at : ℕ → Option Taken
+  taken_at need =
+      cond passed_over None
+      (Some (record { pick = record { security = security_at k; quantity = quantity_for need }; worth = value_of worth o p (quantity_for need) }))

@@ -3,7 +3,7 @@ ghost use Rattle.std.specs.Prelude.{◌≡◌, ◌+◌, ◌<◌, length, if◌th
 ghost use Rattle.std.specs.Option.{option_map};
 ghost use Rattle.valuation.specs.Prices.{price_in, no_price};
 ghost use Rattle.valuation.specs.Ranges.{terms, counted};
-ghost use Rattle.gathering.specs.Taking.{eligible, worthless, taken_for, security_at, takenAt};
+ghost use Rattle.gathering.specs.Taking.{eligible, worthless, taken_for, security_at, taken_at};
 
 use crate::most::most_of;
 use crate::order::{Order, Pick};
@@ -69,7 +69,7 @@ pub(crate) fn taken_at<B: Book, V: Valuation>(
     need: u64,
 ) -> Option<Taken>
     requires { place < length prices.now }
-    ensures { result ≡ takenAt (B.Book.meaning book.now) (V.Valuation.worth valuation.now) order held.now (slice_index_or prices.now place no_price) place need }
+    ensures { result ≡ taken_at (B.Book.meaning book.now) (V.Valuation.worth valuation.now) order held.now (slice_index_or prices.now place no_price) place need }
 {
     let quote = quote_for(&prices[place], order)?;
     let security = security_at(place)?;

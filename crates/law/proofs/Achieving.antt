@@ -15,7 +15,7 @@ use Rattle.memory.specs.declared.row.Slip.{Slip}
 use Rattle.memory.specs.Deals.{worth_by, target_of}
 use Rattle.memory.specs.Sound.{return_number}
 use Rattle.sides.specs.declared.terms.Terms.{Terms}
-use Rattle.tables.specs.Values.{heldWorths}
+use Rattle.tables.specs.Values.{held_worths}
 use Rattle.valuation.specs.declared.price.Price.{Price}
 use Rattle.valuation.specs.Most.{most_units}
 use Rattle.valuation.specs.Prices.{in_ranges, admits}
@@ -24,7 +24,7 @@ use Rattle.law.specs.World.{State, World, state_of}
 use Rattle.law.specs.Finding.{has_deal}
 use Rattle.law.specs.Slips.{deliveries, lines_by, movements_of}
 use Rattle.law.specs.Plans.{Plan, Sharing, over, parted, carried}
-use Rattle.law.specs.Calls.{Call, settle, mark, substitute, plan_of, places_of, prices_of, unitsWorth, quantityWorth, worthOnLine, worthOn, order_for, admitted, new_deal, basket, settlePlan, settleRefusals, itsDeal, replacement, substituteRefusals, substitutePlan, marked, markValue, cover, moving, covering, marking, markPlan, markRefusals, cutsFrom}
+use Rattle.law.specs.Calls.{Call, settle, mark, substitute, plan_of, places_of, prices_of, units_worth, quantity_worth, worth_on_line, worth_on, order_for, admitted, new_deal, basket, settle_plan, settle_refusals, its_deal, replacement, substitute_refusals, substitute_plan, marked, mark_value, cover, moving, covering, marking, mark_plan, mark_refusals, cuts_from}
 use Rattle.law.specs.Outcomes.{prices_fault, outcome, world_by, after}
 use Rattle.law.specs.Past.{Opening, Entry, Past}
 use Rattle.law.specs.Sparing.{Spent}
@@ -46,7 +46,7 @@ use Rattle.law.proofs.Pasts.{held, broken_ok, passed_ok, prices_listed, call_kep
 
 -- ── what is accepted ──
 
-first_none : (a b : Option Rattle.memory.specs.declared.place.Fault.Fault) → Rattle.memory.specs.Sound.first_of a b ≡ None → b ≡ None
+first_none : (a b : Option Rattle.memory.specs.declared.place.Fault.Fault) → Rattle.memory.specs.Sound.first_found a b ≡ None → b ≡ None
 first_none None b e = e
 first_none (Some f) b e = Rattle.memory.proofs.Filled.not_some f (sym e)
 
@@ -78,7 +78,7 @@ accepted o c w h p past e =
 
 module _ (ps : List Price) (d : Deal) (m : Meaning) (need : ℕ) (held' : List ℕ) where
   allowed_worth : (x : Pick) → Allowed m (worth_by d.weighing) ps (order_for d need) held' x.security x.quantity
-      → quantityWorth ps d x.security x.quantity ≡ unitsWorth ps d x.security x.quantity
+      → quantity_worth ps d x.security x.quantity ≡ units_worth ps d x.security x.quantity
   allowed_worth x a =
       let i = and_parts (in_ranges (record_of ps x.security)) _ a.admitted in
       let c = and_parts (admits d.class (record_of ps x.security).category) _ i.1 in
@@ -86,31 +86,31 @@ module _ (ps : List Price) (d : Deal) (m : Meaning) (need : ℕ) (held' : List �
       quantity_priced ps d x.security x.quantity (and_from _ _ i.0 (and_from _ _ n.1 (le-leb _ _ a.bounded)))
 
   basket_worth : (picks : List Pick) → Each (λ x. Allowed m (worth_by d.weighing) ps (order_for d need) held' x.security x.quantity) picks
-      → total (λ x. quantityWorth ps d x.security x.quantity) picks ≡ value_of_all (worth_by d.weighing) ps (order_for d need) picks
+      → total (λ x. quantity_worth ps d x.security x.quantity) picks ≡ value_of_all (worth_by d.weighing) ps (order_for d need) picks
   basket_worth [] a = refl
   basket_worth (x ∷ xs) a = omega (arith, allowed_worth x a.0, basket_worth xs a.1)
 
   -- the deal is worth so much more with the basket on its lines
   pub with_basket : (kind : Kind) (next : ℕ) (picks : List Pick) (ls : List Line) → Covers m (worth_by d.weighing) ps (order_for d need) held' picks
-      → worthOn ps d ls + need ≤ worthOn ps d (lines_by (deliveries kind d next picks) ls)
+      → worth_on ps d ls + need ≤ worth_on ps d (lines_by (deliveries kind d next picks) ls)
   with_basket kind next picks ls c =
-      let f : Line → ℕ = λ l. only (eqb l.deal d.number) (worthOnLine ps d l) in
-      let t = deliveries_total kind d f next picks ls (λ x. quantityWorth ps d x.security x.quantity) (λ n x. ap (λ b. only b (quantityWorth ps d x.security x.quantity)) (eq-eqb d.number d.number refl)) in
+      let f : Line → ℕ = λ l. only (eqb l.deal d.number) (worth_on_line ps d l) in
+      let t = deliveries_total kind d f next picks ls (λ x. quantity_worth ps d x.security x.quantity) (λ n x. ap (λ b. only b (quantity_worth ps d x.security x.quantity)) (eq-eqb d.number d.number refl)) in
       omega (arith, t, worth_total ps d ls, worth_total ps d (lines_by (deliveries kind d next picks) ls), basket_worth picks c.allowed, c.enough)
 
 -- sharing out changes no worth
-parted_worth : (ps : List Price) (d : Deal) (sh : Sharing) (ds : List Deal) (ls : List Line) → worthOn ps d (parted sh ds ls) ≡ worthOn ps d ls
+parted_worth : (ps : List Price) (d : Deal) (sh : Sharing) (ds : List Deal) (ls : List Line) → worth_on ps d (parted sh ds ls) ≡ worth_on ps d ls
 parted_worth ps d sh ds ls =
-    worth_total ps d (parted sh ds ls) ∙ parted_total sh ds ls (λ l. only (eqb l.deal d.number) (worthOnLine ps d l)) (λ l. refl) ∙ sym (worth_total ps d ls)
+    worth_total ps d (parted sh ds ls) ∙ parted_total sh ds ls (λ l. only (eqb l.deal d.number) (worth_on_line ps d l)) (λ l. refl) ∙ sym (worth_total ps d ls)
 
 -- ── settle ──
 
-settle_worth : (o : Opening) (s : State) (h : List Entry) (ps : List Price) (places : ℕ) (t : Terms) (p : Plan) → Kept o s h → 3 + length ps ≡ s.book.resources → settlePlan s ps t ≡ Ok p
-    → target_of (new_deal s t) ≤ worthOn ps (new_deal s t) (carried s p).lines
-unfolding settlePlan carried
+settle_worth : (o : Opening) (s : State) (h : List Entry) (ps : List Price) (places : ℕ) (t : Terms) (p : Plan) → Kept o s h → 3 + length ps ≡ s.book.resources → settle_plan s ps t ≡ Ok p
+    → target_of (new_deal s t) ≤ worth_on ps (new_deal s t) (carried s p).lines
+unfolding settle_plan carried
 settle_worth o s h ps places t p k listed e =
     let q = plan_ok _ _ p e in
-    let c = none_holds (settleRefusals s ps t) q.0 in
+    let c = none_holds (settle_refusals s ps t) q.0 in
     let a = and_parts (ltb t.giver s.book.accounts) _ (not_true_false _ c.1.1.1.0) in
     let fit = not_true_false _ c.1.0 in
     let gathers = not_true_false _ c.1.1.1.1.0 in
@@ -121,32 +121,32 @@ settle_worth o s h ps places t p k listed e =
     let covers = settling.covers o s h k ps t fit giver_in taker-in gathers listed in
     let lines = settling.lines_are o s h k ps t fit giver_in taker-in gathers listed in
     let grew = with_basket ps d s.book (target_of d) [] Settle s.next_line picks s.lines covers in
-    subst (λ x. target_of d ≤ worthOn ps d (carried s x).lines) q.1
-    (omega (arith, grew, ap (worthOn ps d) lines, parted_worth ps d (over ps s.next_deal) (s.deals ++ (d ∷ [])) (lines_by (Rattle.law.specs.Calls.settleSlips s ps t) s.lines)))
+    subst (λ x. target_of d ≤ worth_on ps d (carried s x).lines) q.1
+    (omega (arith, grew, ap (worth_on ps d) lines, parted_worth ps d (over ps s.next_deal) (s.deals ++ (d ∷ [])) (lines_by (Rattle.law.specs.Calls.settle_slips s ps t) s.lines)))
 
 pub settle_covers : SettleCovers
 settle_covers o w h past ps places t p e =
     let a = accepted o (settle ps places t) w h p past e in
-    subst (λ s. target_of (new_deal (state_of w) t) ≤ worthOn ps (new_deal (state_of w) t) s.lines) (sym a.leaves)
+    subst (λ s. target_of (new_deal (state_of w) t) ≤ worth_on ps (new_deal (state_of w) t) s.lines) (sym a.leaves)
     (settle_worth o (state_of w) h ps places t p a.kept (prices_listed _ ps a.prices) a.plans)
 
 -- ── substitute ──
 
 pub substitute_covers : SubstituteCovers
-unfolding substitutePlan
+unfolding substitute_plan
 substitute_covers o w h past ps places n out security p e =
     let a = accepted o (substitute ps places n out security) w h p past e in
     let s : State = state_of w in
     let q = plan_ok _ _ p a.plans in
-    let c = none_holds (substituteRefusals s n ps out security) q.0 in
-    let x = and_parts (admitted ps (itsDeal s n) security) _ (not_true_false _ c.1.1.1.1.0) in
+    let c = none_holds (substitute_refusals s n ps out security) q.0 in
+    let x = and_parts (admitted ps (its_deal s n) security) _ (not_true_false _ c.1.1.1.1.0) in
     let i = and_parts (in_ranges (record_of ps security)) _ x.0 in
-    let y = and_parts (admits (itsDeal s n).class (record_of ps security).category) _ i.1 in
+    let y = and_parts (admits (its_deal s n).class (record_of ps security).category) _ i.1 in
     let z = and_parts (not (record_of ps security).excluded) _ y.1 in
     let in' = substituting.quantity_in_lem o s h a.kept n ps out security (not_true_false _ c.1.0) (not_true_false _ c.1.1.0) x.1 in
     let q' : ℕ = unwrap_or (replacement s n ps out security) 0 in
     let few : q' ≤ most_units = omega (arith, in'.bounded) in
-    let priced' = quantity_priced ps (itsDeal s n) security q' (and_from _ _ i.0 (and_from _ _ z.1 (le-leb _ _ few))) in
+    let priced' = quantity_priced ps (its_deal s n) security q' (and_from _ _ i.0 (and_from _ _ z.1 (le-leb _ _ few))) in
     record {
       quantity = q';
       slips = ap (λ v. v.slips) (sym q.1);
@@ -160,10 +160,10 @@ module _ (o : Opening) (s : State) (h : List Entry) (k : Kept o s h) (ps : List 
   d = marked s n
 
   abbrev cutting : List Slip
-  cutting = cutsFrom ps d s.book (markValue s ps n) (reverse s.lines)
+  cutting = cuts_from ps d s.book (mark_value s ps n) (reverse s.lines)
 
   -- what moving slips leaves
-  moving_worth : (xs : List Slip) → worthOn ps d (carried s (moving s ps n xs)).lines ≡ worthOn ps d (lines_by xs s.lines)
+  moving_worth : (xs : List Slip) → worth_on ps d (carried s (moving s ps n xs)).lines ≡ worth_on ps d (lines_by xs s.lines)
   unfolding carried
   moving_worth [] = refl
   moving_worth (x ∷ xs) = parted_worth ps d (over ps n) s.deals (lines_by (x ∷ xs) s.lines)
@@ -182,17 +182,17 @@ module _ (o : Opening) (s : State) (h : List Entry) (k : Kept o s h) (ps : List 
   moving_quiet [] = refl
   moving_quiet (x ∷ xs) = refl
 
-  covering_marks : (c : Option (List Pick)) → c ≡ cover s ps n → markValue s ps n < target_of d → Marks ps n s (covering s ps n c) (carried s (covering s ps n c))
+  covering_marks : (c : Option (List Pick)) → c ≡ cover s ps n → mark_value s ps n < target_of d → Marks ps n s (covering s ps n c) (carried s (covering s ps n c))
   covering_marks None e less =
       record {
         covered = λ f. absurd (both_ways true f refl);
         unmoved = λ _. refl;
-        uncovered = λ _. gathered_fails s.book (worth_by d.weighing) ps (order_for d (target_of d - markValue s ps n)) (heldWorths (worth_by d.weighing) d.currency ps n s.lines) (worth_none d.weighing) (worth_more d.weighing) e;
+        uncovered = λ _. gathered_fails s.book (worth_by d.weighing) ps (order_for d (target_of d - mark_value s ps n)) (held_worths (worth_by d.weighing) d.currency ps n s.lines) (worth_none d.weighing) (worth_more d.weighing) e;
         spent = λ more. let z : ⊥ = omega (arith, more, less) in absurd z;
       }
   covering_marks (Some picks) e less =
-      let need : ℕ = target_of d - markValue s ps n in
-      let held' : List ℕ = heldWorths (worth_by d.weighing) d.currency ps n s.lines in
+      let need : ℕ = target_of d - mark_value s ps n in
+      let held' : List ℕ = held_worths (worth_by d.weighing) d.currency ps n s.lines in
       let c = gathered_covers s.book (worth_by d.weighing) ps (order_for d need) held' (worth_none d.weighing) (worth_more d.weighing) picks e in
       let grew = with_basket ps d s.book need held' Mark s.next_line picks s.lines c in
       let ys : List Slip = deliveries Mark d s.next_line picks in
@@ -203,24 +203,24 @@ module _ (o : Opening) (s : State) (h : List Entry) (k : Kept o s h) (ps : List 
         spent = λ more. let z : ⊥ = omega (arith, more, less) in absurd z;
       }
 
-  cutting_marks : target_of d < markValue s ps n → Marks ps n s (moving s ps n cutting) (carried s (moving s ps n cutting))
+  cutting_marks : target_of d < mark_value s ps n → Marks ps n s (moving s ps n cutting) (carried s (moving s ps n cutting))
   cutting_marks more =
       let fair = marks.fair_cuts o s h k ps 0 n there listed (omega (arith, more)) in
       let some : Each (λ l. 1 ≤ l.quantity) s.lines = all_to _ _ (λ l p. p.quantity_some) s.lines k.lines.placed in
-      let all = cuts_spent ps d s.book (markValue s ps n) (reverse s.lines) s.lines (distinct_reverse return_number s.lines k.lines.rise) (marks.met o s h k ps 0 n there listed)
+      let all = cuts_spent ps d s.book (mark_value s ps n) (reverse s.lines) s.lines (distinct_reverse return_number s.lines k.lines.rise) (marks.met o s h k ps 0 n there listed)
       (all_reverse return_number _ s.lines some) k.lines.rise refl (omega (arith, more)) (all_to _ _ (λ l t. inl t) s.lines (has_reverse return_number s.lines)) in
       record {
         covered = λ _. omega (arith, fair.worth, moving_worth cutting);
         unmoved = λ t. absurd (both_ways _ (moving_quiet cutting) t);
         uncovered = λ t. absurd (both_ways _ (moving_quiet cutting) t);
-        spent = λ _. subst (λ m. Each (Spent ps d m (worthOn ps d (carried s (moving s ps n cutting)).lines)) (carried s (moving s ps n cutting)).lines) (sym (moving_book cutting))
-            (subst (λ v. Each (Spent ps d (run s.book (movements_of cutting)) v) (carried s (moving s ps n cutting)).lines) (sym (moving_worth cutting)) (moving_spent cutting (run s.book (movements_of cutting)) (worthOn ps d (lines_by cutting s.lines)) all));
+        spent = λ _. subst (λ m. Each (Spent ps d m (worth_on ps d (carried s (moving s ps n cutting)).lines)) (carried s (moving s ps n cutting)).lines) (sym (moving_book cutting))
+            (subst (λ v. Each (Spent ps d (run s.book (movements_of cutting)) v) (carried s (moving s ps n cutting)).lines) (sym (moving_worth cutting)) (moving_spent cutting (run s.book (movements_of cutting)) (worth_on ps d (lines_by cutting s.lines)) all));
       }
 
-  still_marks : target_of d ≤ markValue s ps n → markValue s ps n ≤ target_of d → Marks ps n s (moving s ps n []) (carried s (moving s ps n []))
+  still_marks : target_of d ≤ mark_value s ps n → mark_value s ps n ≤ target_of d → Marks ps n s (moving s ps n []) (carried s (moving s ps n []))
   still_marks low high =
       record {
-        covered = λ _. omega (arith, low, moving_worth [], ap (worthOn ps d) (no_slips s.lines));
+        covered = λ _. omega (arith, low, moving_worth [], ap (worth_on ps d) (no_slips s.lines));
         unmoved = λ t. absurd (both_ways false refl t);
         uncovered = λ t. absurd (both_ways false refl t);
         spent = λ more. let z : ⊥ = omega (arith, more, high) in absurd z;
@@ -231,18 +231,18 @@ module _ (o : Opening) (s : State) (h : List Entry) (k : Kept o s h) (ps : List 
 
   pub marking_marks : Goes (marking s ps n)
   marking_marks =
-      by_test (ltb (markValue s ps n) (target_of d)) (λ b. ltb (markValue s ps n) (target_of d) ≡ b → Goes (cond b (covering s ps n (cover s ps n)) (cond (ltb (target_of d) (markValue s ps n)) (moving s ps n cutting) (moving s ps n []))))
+      by_test (ltb (mark_value s ps n) (target_of d)) (λ b. ltb (mark_value s ps n) (target_of d) ≡ b → Goes (cond b (covering s ps n (cover s ps n)) (cond (ltb (target_of d) (mark_value s ps n)) (moving s ps n cutting) (moving s ps n []))))
       (λ e _. covering_marks (cover s ps n) refl (ltb-true _ _ e))
-      (λ e _. by_test (ltb (target_of d) (markValue s ps n)) (λ b. ltb (target_of d) (markValue s ps n) ≡ b → Goes (cond b (moving s ps n cutting) (moving s ps n [])))
+      (λ e _. by_test (ltb (target_of d) (mark_value s ps n)) (λ b. ltb (target_of d) (mark_value s ps n) ≡ b → Goes (cond b (moving s ps n cutting) (moving s ps n [])))
       (λ t _. cutting_marks (ltb-true _ _ t))
       (λ t _. still_marks (ltb-false _ _ e) (ltb-false _ _ t)) refl) refl
 
 pub mark_covers : MarkCovers
-unfolding markPlan
+unfolding mark_plan
 mark_covers o w h past ps places n p e =
     let a = accepted o (mark ps places n) w h p past e in
     let s : State = state_of w in
     let q = plan_ok _ _ p a.plans in
-    let c = none_holds (markRefusals s ps n) q.0 in
+    let c = none_holds (mark_refusals s ps n) q.0 in
     subst (λ t. Marks ps n s p t) (sym a.leaves)
     (subst (λ x. Marks ps n s x (carried s x)) q.1 (marking_marks o s h a.kept ps n (not_true_false _ c.1.0) (prices_listed _ ps a.prices)))

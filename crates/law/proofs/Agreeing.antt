@@ -34,25 +34,25 @@ apart (x ∷ xs) h =
 
 module _ (test : Deal → Bool) where
   -- a line counts where its deal stands and passes
-  abbrev standing-part : List Deal → Line → ℕ
-  standing-part ds l = only (has_deal l.deal ds && test (deal_of l.deal ds)) l.part
+  abbrev standing_part : List Deal → Line → ℕ
+  standing_part ds l = only (has_deal l.deal ds && test (deal_of l.deal ds)) l.part
 
   one_deal : (d : Deal) (ds : List Deal) → has_deal d.number ds ≡ false → (ls : List Line)
-      → total (standing-part (d ∷ ds)) ls ≡ only (test d) (parts_for d.number ls) + total (standing-part ds) ls
+      → total (standing_part (d ∷ ds)) ls ≡ only (test d) (parts_for d.number ls) + total (standing_part ds) ls
   one_deal d ds alone [] = omega (arith, only_none (test d))
   one_deal d ds alone (l ∷ ls) =
       let i = one_deal d ds alone ls in
       by_test (eqb d.number l.deal) (λ b. eqb d.number l.deal ≡ b
-      → only (cond b true (has_deal l.deal ds) && test (cond b d (deal_of l.deal ds))) l.part + total (standing-part (d ∷ ds)) ls
-      ≡ only (test d) (only (eqb l.deal d.number) l.part + parts_for d.number ls) + (only (has_deal l.deal ds && test (deal_of l.deal ds)) l.part + total (standing-part ds) ls))
+      → only (cond b true (has_deal l.deal ds) && test (cond b d (deal_of l.deal ds))) l.part + total (standing_part (d ∷ ds)) ls
+      ≡ only (test d) (only (eqb l.deal d.number) l.part + parts_for d.number ls) + (only (has_deal l.deal ds && test (deal_of l.deal ds)) l.part + total (standing_part ds) ls))
       (λ e _.
       let is : d.number ≡ l.deal = eqb-true _ _ e in
       let back : eqb l.deal d.number ≡ true = eq-eqb _ _ (sym is) in
       let out : has_deal l.deal ds ≡ false = subst (λ n. has_deal n ds ≡ false) is alone in
       let o1 = ap (λ b. only (b && test (deal_of l.deal ds)) l.part) out in
       let o2 = ap (λ b. only (test d) (only b l.part + parts_for d.number ls)) back in
-      by_test (test d) (λ b. only b (only (eqb l.deal d.number) l.part + parts_for d.number ls) ≡ only b (l.part + parts_for d.number ls) → total (standing-part (d ∷ ds)) ls ≡ only b (parts_for d.number ls) + total (standing-part ds) ls
-      → only b l.part + total (standing-part (d ∷ ds)) ls ≡ only b (only (eqb l.deal d.number) l.part + parts_for d.number ls) + (only (has_deal l.deal ds && test (deal_of l.deal ds)) l.part + total (standing-part ds) ls))
+      by_test (test d) (λ b. only b (only (eqb l.deal d.number) l.part + parts_for d.number ls) ≡ only b (l.part + parts_for d.number ls) → total (standing_part (d ∷ ds)) ls ≡ only b (parts_for d.number ls) + total (standing_part ds) ls
+      → only b l.part + total (standing_part (d ∷ ds)) ls ≡ only b (only (eqb l.deal d.number) l.part + parts_for d.number ls) + (only (has_deal l.deal ds && test (deal_of l.deal ds)) l.part + total (standing_part ds) ls))
       (λ t p q. omega (arith, p, q, o1)) (λ t p q. omega (arith, p, q, o1)) o2 i)
       (λ e _.
       let back : eqb l.deal d.number ≡ false = ne_eqb _ _ (λ w. both_ways (eqb d.number l.deal) e (eq-eqb _ _ (sym w))) in
@@ -60,10 +60,10 @@ module _ (test : Deal → Bool) where
       ap (λ b. only (test d) (only b l.part + parts_for d.number ls)) back ∙ ap (only (test d)) (omega arith) in
       omega (arith, o2, i)) refl
 
-  by_deals : (ds : List Deal) → Ordered number ds → (ls : List Line) → total (standing-part ds) ls ≡ total (λ d. only (test d) (parts_for d.number ls)) ds
+  by_deals : (ds : List Deal) → Ordered number ds → (ls : List Line) → total (standing_part ds) ls ≡ total (λ d. only (test d) (parts_for d.number ls)) ds
   by_deals [] h ls = none ls
     where
-      none : (xs : List Line) → total (standing-part []) xs ≡ 0
+      none : (xs : List Line) → total (standing_part []) xs ≡ 0
       none [] = refl
       none (x ∷ xs) = omega (arith, none xs)
   by_deals (d ∷ ds) h ls =
@@ -73,7 +73,7 @@ module _ (test : Deal → Bool) where
   pub over_deals : (ds : List Deal) (ls : List Line) → Ordered number ds → Each (λ l. has_deal l.deal ds ≡ true) ls
       → Each (λ d. parts_for d.number ls ≡ d.cash) ds → over ds test part_of ls ≡ cash_over test ds
   over_deals ds ls h on parts =
-      total_same _ (λ l. only (test (deal_of l.deal ds)) l.part) (standing-part ds) (λ l t. ap (λ b. only (b && test (deal_of l.deal ds)) l.part) (sym t)) ls on
+      total_same _ (λ l. only (test (deal_of l.deal ds)) l.part) (standing_part ds) (λ l t. ap (λ b. only (b && test (deal_of l.deal ds)) l.part) (sym t)) ls on
       ∙ by_deals ds h ls
       ∙ total_same _ (λ d. only (test d) (parts_for d.number ls)) (λ d. only (test d) d.cash) (λ d p. ap (only (test d)) p) ds parts
 

@@ -4,7 +4,7 @@ use Rattle.std.proofs.lemmas.Bool.{cases_eq, both_ways, eq-eqb}
 use Rattle.book.specs.Meaning.{Meaning}
 use Rattle.memory.specs.declared.row.Deal.{Deal}
 use Rattle.memory.specs.declared.row.Line.{Line}
-use Rattle.memory.specs.Deals.{amended as amendedTo}
+use Rattle.memory.specs.Deals.{amended as amended_to}
 use Rattle.memory.specs.Rows.{no_deal}
 use Rattle.memory.specs.Sound.{number}
 use Rattle.sharing.specs.Limits.{most_rate}
@@ -29,9 +29,9 @@ module _ (o : Opening) (m : Meaning) (date next : ℕ) (ds : List Deal) (ls : Li
   still_a = record { nothing = λ daily date'. ap (λ z. added_by z daily date') says-amended }
 
   abbrev es : List Deal
-  es = replaced number n (λ d. amendedTo rate due d ∷ []) ds
+  es = replaced number n (λ d. amended_to rate due d ∷ []) ds
 
-  says_a : (d : Deal) → d.number ≡ n → Says o h ls d → Says o (e ∷ h) ls (amendedTo rate due d)
+  says_a : (d : Deal) → d.number ≡ n → Says o h ls d → Says o (e ∷ h) ls (amended_to rate due d)
   says_a d is s =
       let z : eqb n d.number ≡ true = eq-eqb n d.number (sym is) in
       let pair : pair_of d.number (e ∷ h) ≡ pair_of d.number h = ap (λ y. pair_by d.number y (pair_of d.number h)) says-amended in
@@ -47,11 +47,11 @@ module _ (o : Opening) (m : Meaning) (date next : ℕ) (ds : List Deal) (ls : Li
         unpaid = omega (arith, s.unpaid, ap (total (interest_of d.number)) no_slips);
       }
 
-  cash_a : (test : Deal → Bool) → ((d : Deal) → test (amendedTo rate due d) ≡ test d) → cash_over test es ≡ cash_over test ds
+  cash_a : (test : Deal → Bool) → ((d : Deal) → test (amended_to rate due d) ≡ test d) → cash_over test es ≡ cash_over test ds
   cash_a test same =
       let f : Deal → ℕ = λ d. only (test d) d.cash in
       let d : Deal = deal_of n ds in
-      omega (arith, total_replaced number n (λ d. amendedTo rate due d ∷ []) f no_deal ds there, ap (λ b. only b d.cash) (same d))
+      omega (arith, total_replaced number n (λ d. amended_to rate due d ∷ []) f no_deal ds there, ap (λ b. only b d.cash) (same d))
 
   pub amended_step : DealsKept o m date next es ls (e ∷ h)
   amended_step =
@@ -59,10 +59,10 @@ module _ (o : Opening) (m : Meaning) (date next : ℕ) (ds : List Deal) (ls : Li
         dated = k.dated ∙ ap (λ z. date_by z (date_of o h)) (sym says-amended);
         date_most = k.date_most;
         next_some = k.next_some;
-        rise = ordered_replaced number n (λ d. amendedTo rate due d ∷ []) (λ d. record { rise = (tt, tt); same = (refl, tt) }) ds k.rise;
-        ranged = all_changed number (Ranged m.accounts next date) (Ranged m.accounts next date) no_deal n (λ d. amendedTo rate due d ∷ []) ds there k.rise k.ranged (λ d r ne. r)
+        rise = ordered_replaced number n (λ d. amended_to rate due d ∷ []) (λ d. record { rise = (tt, tt); same = (refl, tt) }) ds k.rise;
+        ranged = all_changed number (Ranged m.accounts next date) (Ranged m.accounts next date) no_deal n (λ d. amended_to rate due d ∷ []) ds there k.rise k.ranged (λ d r ne. r)
             (λ d r is. (record { number_some = r.number_some; number_below = r.number_below; giver = r.giver; taker = r.taker; differ = r.differ; margin = r.margin; sought_some = r.sought_some; sought_most = r.sought_most; rate = rate_most; cash = r.cash; whole = r.whole; residue = r.residue }, tt));
-        says = all_changed number (Says o h ls) (Says o (e ∷ h) ls) no_deal n (λ d. amendedTo rate due d ∷ []) ds there k.rise k.says
+        says = all_changed number (Says o h ls) (Says o (e ∷ h) ls) no_deal n (λ d. amended_to rate due d ∷ []) ds there k.rise k.says
             (λ d s ne. says_quiet o h e ls ls d (quiet_a d.number (λ i. ne (sym i))) still_a refl s)
             (λ d s is. (says_a d is s, tt));
         once = λ i. omega (arith, ap (λ y. count i (settled_numbers y ++ deal_numbers h)) says-amended, k.once i);
@@ -70,7 +70,7 @@ module _ (o : Opening) (m : Meaning) (date next : ℕ) (ds : List Deal) (ls : Li
           | inl is ↦ absurd (both_ways (stood n h) (subst (λ j. stood j h ≡ false) (sym is) (k.fresh i l).out) (sym (k.stand n) ∙ there))
           | inr ne ↦ unseen_quiet o i e h (quiet_a i ne) (k.fresh i l)
         ];
-        stand = λ i. has_changed number (amendedTo rate due) (λ d. refl) n i ds ∙ k.stand i ∙ sym (ap (λ y. stood_by i y (stood i h)) says-amended);
+        stand = λ i. has_changed number (amended_to rate due) (λ d. refl) n i ds ∙ k.stand i ∙ sym (ap (λ y. stood_by i y (stood i h)) says-amended);
         went = λ i out.
             let was : stood i h ≡ false = sym (ap (λ y. stood_by i y (stood i h)) says-amended) ∙ out in
             let int : interest_on i (e ∷ h) ≡ interest_on i h = omega (arith, ap (total (interest_of i)) no_slips) in

@@ -20,7 +20,7 @@ use Rattle.valuation.proofs.Bests.{largest_is}
 use Rattle.law.specs.Sums.{only, total}
 use Rattle.law.specs.Finding.{has, found, replaced, has_deal, deal_of, has_line, line_of}
 use Rattle.law.specs.Slips.{movement_of, lessened, lines_by}
-use Rattle.law.specs.Calls.{unitsWorth, worthOnLine, worthOn, cut_of, cuts, cutSlip, valueCut, cutsFrom}
+use Rattle.law.specs.Calls.{units_worth, worth_on_line, worth_on, cut_of, cuts, cut_slip, value_cut, cuts_from}
 use Rattle.law.proofs.Totals.{by_test, total_replaced, total_each, found_all, all_to, all_append, all_both}
 use Rattle.law.proofs.Ordered.{Ordered}
 use Rattle.law.proofs.Worths.{worth_total, quantity_priced, quantity_none, priced_some, priced_less}
@@ -90,26 +90,26 @@ module _ (ps : List Price) (d : Deal) where
   -- a line that is cut
   pub record Cut (m : Meaning) (value : ℕ) (l : Line) : Type 0 where
     pub on : l.deal ≡ d.number
-    pub worth : 0 < worthOnLine ps d l
+    pub worth : 0 < worth_on_line ps d l
     pub some : 1 ≤ cut_of ps d m value l
     pub within : cut_of ps d m value l ≤ l.quantity
     pub free_within : cut_of ps d m value l ≤ free m d.taker l.security
-    pub keeps : target_of d ≤ valueCut ps d m value l
+    pub keeps : target_of d ≤ value_cut ps d m value l
 
-  pub cut_is : (m : Meaning) (value : ℕ) (l : Line) → cuts ps d m value l ≡ true → target_of d ≤ value → worthOnLine ps d l ≤ value → Cut m value l
+  pub cut_is : (m : Meaning) (value : ℕ) (l : Line) → cuts ps d m value l ≡ true → target_of d ≤ value → worth_on_line ps d l ≤ value → Cut m value l
   cut_is m value l t enough part =
       let a = and_parts (on_deal d.number l) _ t in
-      let b = and_parts (ltb 0 (worthOnLine ps d l)) _ a.1 in
+      let b = and_parts (ltb 0 (worth_on_line ps d l)) _ a.1 in
       let bound : ℕ = min (free m d.taker l.security) l.quantity in
-      let test : ℕ → Bool = leaves (unitsWorth ps d l.security) l.quantity (target_of d - (value - worthOnLine ps d l)) in
+      let test : ℕ → Bool = leaves (units_worth ps d l.security) l.quantity (target_of d - (value - worth_on_line ps d l)) in
       let is : IsLargest test bound (largest_up_to test bound) = largest_is test bound in
-      let w : 0 < worthOnLine ps d l = ltb-true _ _ b.0 in
+      let w : 0 < worth_on_line ps d l = ltb-true _ _ b.0 in
       let pr = priced_some ps d l.security l.quantity w in
-      let full : worthOnLine ps d l ≡ unitsWorth ps d l.security l.quantity = quantity_priced ps d l.security l.quantity pr in
+      let full : worth_on_line ps d l ≡ units_worth ps d l.security l.quantity = quantity_priced ps d l.security l.quantity pr in
       let whole : l.quantity - 0 ≡ l.quantity = omega arith in
-      let zero-passes : test 0 ≡ true = le-leb _ _ (omega (arith, full, enough, part, ap (unitsWorth ps d l.security) whole)) in
+      let zero-passes : test 0 ≡ true = le-leb _ _ (omega (arith, full, enough, part, ap (units_worth ps d l.security) whole)) in
       let passes : test (largest_up_to test bound) ≡ true = is.passes 0 (omega arith) zero-passes in
-      let left : target_of d - (value - worthOnLine ps d l) ≤ unitsWorth ps d l.security (l.quantity - cut_of ps d m value l) = leb-true _ _ passes in
+      let left : target_of d - (value - worth_on_line ps d l) ≤ units_worth ps d l.security (l.quantity - cut_of ps d m value l) = leb-true _ _ passes in
       record {
         on = eqb-true _ _ a.0;
         worth = w;
@@ -125,40 +125,40 @@ module _ (ps : List Price) (d : Deal) where
     pub is : line_of l.number cur ≡ l
     pub low : 3 ≤ l.security
 
-  abbrev ofDeal : Line → ℕ
-  ofDeal l = only (eqb l.deal d.number) (worthOnLine ps d l)
+  abbrev of_deal : Line → ℕ
+  of_deal l = only (eqb l.deal d.number) (worth_on_line ps d l)
 
   -- a line of the deal is worth no more than the deal
-  pub line_part_lem : (cur : List Line) (l : Line) → Met cur l → l.deal ≡ d.number → worthOnLine ps d l ≤ worthOn ps d cur
+  pub line_part_lem : (cur : List Line) (l : Line) → Met cur l → l.deal ≡ d.number → worth_on_line ps d l ≤ worth_on ps d cur
   line_part_lem cur l k on =
-      let e = found_all return_number (λ x. ofDeal x ≤ total ofDeal cur) no_line l.number cur k.listed (total_each ofDeal cur) in
-      let f : ofDeal l ≤ total ofDeal cur = subst (λ x. ofDeal x ≤ total ofDeal cur) k.is e in
+      let e = found_all return_number (λ x. of_deal x ≤ total of_deal cur) no_line l.number cur k.listed (total_each of_deal cur) in
+      let f : of_deal l ≤ total of_deal cur = subst (λ x. of_deal x ≤ total of_deal cur) k.is e in
       let t : eqb l.deal d.number ≡ true = eq-eqb _ _ on in
-      omega (arith, f, ap (λ b. only b (worthOnLine ps d l)) t, worth_total ps d cur)
+      omega (arith, f, ap (λ b. only b (worth_on_line ps d l)) t, worth_total ps d cur)
 
   -- what is left of it
-  pub rest_worth : (q : ℕ) (l : Line) → 0 < worthOnLine ps d l → worthOnLine ps d (less_quantity q l) ≡ unitsWorth ps d l.security (l.quantity - q)
+  pub rest_worth : (q : ℕ) (l : Line) → 0 < worth_on_line ps d l → worth_on_line ps d (less_quantity q l) ≡ units_worth ps d l.security (l.quantity - q)
   rest_worth q l w =
       quantity_priced ps d l.security (l.quantity - q) (priced_less ps d l.security l.quantity (l.quantity - q) (omega arith) (priced_some ps d l.security l.quantity w))
 
-  lessened_worth : (q : ℕ) (l : Line) → total ofDeal (lessened q l) ≡ ofDeal (less_quantity q l)
+  lessened_worth : (q : ℕ) (l : Line) → total of_deal (lessened q l) ≡ of_deal (less_quantity q l)
   lessened_worth q l =
-      by_test (eqb l.quantity q) (λ b. total ofDeal (cond b [] (less_quantity q l ∷ [])) ≡ ofDeal (less_quantity q l))
+      by_test (eqb l.quantity q) (λ b. total of_deal (cond b [] (less_quantity q l ∷ [])) ≡ of_deal (less_quantity q l))
       (λ t.
       let k : l.quantity ≡ q = eqb-true _ _ t in
       let z : l.quantity - q ≡ 0 = omega (arith, k) in
-      let n : worthOnLine ps d (less_quantity q l) ≡ 0 = rw z (quantity_none ps d l.security) in
+      let n : worth_on_line ps d (less_quantity q l) ≡ 0 = rw z (quantity_none ps d l.security) in
       sym (ap (only (eqb l.deal d.number)) n ∙ Rattle.law.proofs.Totals.only_none (eqb l.deal d.number)))
       (λ t. omega arith)
 
   -- the deal after one cut
-  pub cut_worth : (m : Meaning) (value : ℕ) (cur : List Line) (l : Line) → Met cur l → Cut m value l → worthOn ps d cur ≡ value
-      → worthOn ps d (replaced return_number l.number (lessened (cut_of ps d m value l)) cur) ≡ valueCut ps d m value l
+  pub cut_worth : (m : Meaning) (value : ℕ) (cur : List Line) (l : Line) → Met cur l → Cut m value l → worth_on ps d cur ≡ value
+      → worth_on ps d (replaced return_number l.number (lessened (cut_of ps d m value l)) cur) ≡ value_cut ps d m value l
   cut_worth m value cur l k c e =
       let q : ℕ = cut_of ps d m value l in
       let after : List Line = replaced return_number l.number (lessened q) cur in
-      let t = total_replaced return_number l.number (lessened q) ofDeal no_line cur k.listed in
-      let u : total ofDeal after + ofDeal l ≡ total ofDeal cur + total ofDeal (lessened q l) = subst (λ x. total ofDeal after + ofDeal x ≡ total ofDeal cur + total ofDeal (lessened q x)) k.is t in
+      let t = total_replaced return_number l.number (lessened q) of_deal no_line cur k.listed in
+      let u : total of_deal after + of_deal l ≡ total of_deal cur + total of_deal (lessened q l) = subst (λ x. total of_deal after + of_deal x ≡ total of_deal cur + total of_deal (lessened q x)) k.is t in
       let on : eqb l.deal d.number ≡ true = eq-eqb _ _ c.on in
       omega (
         arith,
@@ -166,8 +166,8 @@ module _ (ps : List Price) (d : Deal) where
         lessened_worth q l,
         worth_total ps d cur,
         worth_total ps d after,
-        ap (λ b. only b (worthOnLine ps d l)) on,
-        ap (λ b. only b (worthOnLine ps d (less_quantity q l))) on,
+        ap (λ b. only b (worth_on_line ps d l)) on,
+        ap (λ b. only b (worth_on_line ps d (less_quantity q l))) on,
         rest_worth q l c.worth,
         line_part_lem cur l k c.on,
         e,
@@ -183,26 +183,26 @@ module _ (ps : List Price) (d : Deal) where
     pub fits : Fitting resources ds next xs cur
     pub stocks : Each Stock xs
     pub one_deal : Each (λ x. x.deal ≡ d.number) xs
-    pub worth : target_of d ≤ worthOn ps d (lines_by xs cur)
+    pub worth : target_of d ≤ worth_on ps d (lines_by xs cur)
 
   module _ (resources : ℕ) (ds : List Deal) (there : has_deal d.number ds ≡ true) (same : deal_of d.number ds ≡ d) where
     pub cuts_fair : (m : Meaning) (value next : ℕ) (rest cur : List Line) → Distinct return_number rest → Each (Met cur) rest
-        → worthOn ps d cur ≡ value → target_of d ≤ value → Fair resources ds next cur (cutsFrom ps d m value rest)
-    unfolding cutsFrom lines_by
+        → worth_on ps d cur ≡ value → target_of d ≤ value → Fair resources ds next cur (cuts_from ps d m value rest)
+    unfolding cuts_from lines_by
     cuts_fair m value next [] cur apart met e enough = record { fits = tt; stocks = tt; one_deal = tt; worth = omega (arith, e, enough) }
     cuts_fair m value next (l ∷ rest) cur apart met e enough =
         elim (cases_Bool (cuts ps d m value l)) [
           | inr out ↦
-              subst (λ b. Fair resources ds next cur (cond b (cutSlip ps d m value l ∷ cutsFrom ps d (moved m (movement_of (cutSlip ps d m value l))) (valueCut ps d m value l) rest) (cutsFrom ps d m value rest))) (sym out)
+              subst (λ b. Fair resources ds next cur (cond b (cut_slip ps d m value l ∷ cuts_from ps d (moved m (movement_of (cut_slip ps d m value l))) (value_cut ps d m value l) rest) (cuts_from ps d m value rest))) (sym out)
               (cuts_fair m value next rest cur apart.1 met.1 e enough)
           | inl cut ↦
               let on : l.deal ≡ d.number = eqb-true _ _ (and_parts (on_deal d.number l) _ cut).0 in
               let c : Cut m value l = cut_is m value l cut enough (omega (arith, line_part_lem cur l met.0 on, e)) in
               let q : ℕ = cut_of ps d m value l in
-              let i = cuts_fair (moved m (movement_of (cutSlip ps d m value l))) (valueCut ps d m value l) (next + 0) rest (replaced return_number l.number (lessened q) cur) apart.1
+              let i = cuts_fair (moved m (movement_of (cut_slip ps d m value l))) (value_cut ps d m value l) (next + 0) rest (replaced return_number l.number (lessened q) cur) apart.1
               (all_to _ _ (λ x p. met_after q l.number cur x p.0 p.1) rest (all_both _ _ rest apart.0 met.1))
               (cut_worth m value cur l met.0 c e) c.keeps in
-              subst (λ b. Fair resources ds next cur (cond b (cutSlip ps d m value l ∷ cutsFrom ps d (moved m (movement_of (cutSlip ps d m value l))) (valueCut ps d m value l) rest) (cutsFrom ps d m value rest))) (sym cut)
+              subst (λ b. Fair resources ds next cur (cond b (cut_slip ps d m value l ∷ cuts_from ps d (moved m (movement_of (cut_slip ps d m value l))) (value_cut ps d m value l) rest) (cuts_from ps d m value rest))) (sym cut)
               (record {
                 fits = (
                   record {

@@ -46,35 +46,35 @@ module _ (o : Opening) (m : Meaning) (date next : ℕ) (ds : List Deal) (ls : Li
   abbrev es : List Deal
   es = replaced number n (λ _. []) ds
 
-  abbrev paidDeal : Deal
-  paidDeal = deal_of n ds
+  abbrev paid_deal : Deal
+  paid_deal = deal_of n ds
 
-  is_n : paidDeal.number ≡ n
+  is_n : paid_deal.number ≡ n
   is_n = found_key number no_deal n ds there
 
-  said : Says o h ls paidDeal
+  said : Says o h ls paid_deal
   said = found_all number (Says o h ls) no_deal n ds there k.says
 
-  in_range : Ranged m.accounts next date paidDeal
+  in_range : Ranged m.accounts next date paid_deal
   in_range = found_all number (Ranged m.accounts next date) no_deal n ds there k.ranged
 
-  no_cash : paidDeal.cash ≡ 0
+  no_cash : paid_deal.cash ≡ 0
   no_cash = sym said.parts ∙ ap (λ i. parts_for i ls) is_n ∙ no-parts
 
   cash_same : (test : Deal → Bool) → cash_over test es ≡ cash_over test ds
   cash_same test =
       let t = total_replaced number n (λ _. []) (λ d. only (test d) d.cash) no_deal ds there in
-      let z : only (test paidDeal) paidDeal.cash ≡ 0 = ap (only (test paidDeal)) no_cash ∙ only_none (test paidDeal) in
+      let z : only (test paid_deal) paid_deal.cash ≡ 0 = ap (only (test paid_deal)) no_cash ∙ only_none (test paid_deal) in
       omega (arith, t, z)
 
   went_here : interest_on n (e ∷ h) ≡ accrued_on o n (e ∷ h) / unit_in (pair_of n (e ∷ h)).currency
   went_here =
       let pair : pair_of n (e ∷ h) ≡ pair_of n h = ap (λ y. pair_by n y (pair_of n h)) says-paid in
       let unpaid : interest_on n h ≡ 0 = subst (λ i. interest_on i h ≡ 0) is_n said.unpaid in
-      let all : paidDeal.whole * unit_in paidDeal.currency + paidDeal.residue ≡ accrued_on o n h = said.interest ∙ ap (λ i. accrued_on o i h) is_n in
-      let q = whole_is paidDeal.currency paidDeal.whole paidDeal.residue (accrued_on o n h) all in_range.residue in
-      let cur : paidDeal.currency ≡ (pair_of n h).currency = said.currency ∙ ap (λ i. (pair_of i h).currency) is_n in
-      let first : interest_on n (e ∷ h) ≡ paidDeal.whole = omega (arith, interest, unpaid) in
+      let all : paid_deal.whole * unit_in paid_deal.currency + paid_deal.residue ≡ accrued_on o n h = said.interest ∙ ap (λ i. accrued_on o i h) is_n in
+      let q = whole_is paid_deal.currency paid_deal.whole paid_deal.residue (accrued_on o n h) all in_range.residue in
+      let cur : paid_deal.currency ≡ (pair_of n h).currency = said.currency ∙ ap (λ i. (pair_of i h).currency) is_n in
+      let first : interest_on n (e ∷ h) ≡ paid_deal.whole = omega (arith, interest, unpaid) in
       first ∙ q ∙ ap (λ c. accrued_on o n h / unit_in c) cur ∙ ap (λ v. v / unit_in (pair_of n h).currency) (sym (accrued_still o n e h still)) ∙ ap (λ u. accrued_on o n (e ∷ h) / unit_in u.currency) (sym pair)
 
   pub gone_step : DealsKept o (run m (movements_of e.slips)) date next es ls (e ∷ h)

@@ -5,7 +5,7 @@ use Rattle.std.proofs.lemmas.Bool.Decides.{nat_tests}
 use Rattle.book.specs.Meaning.{Meaning}
 use Rattle.memory.specs.declared.row.Deal.{Deal}
 use Rattle.memory.specs.declared.row.Line.{Line}
-use Rattle.memory.specs.Deals.{grown as grownBy, with_interest, with_growth}
+use Rattle.memory.specs.Deals.{grown as grown_by, with_interest, with_growth}
 use Rattle.memory.specs.Kinds.{base_of}
 use Rattle.memory.specs.Sound.{number}
 use Rattle.sharing.specs.Accrual.{accrued, in_range}
@@ -23,7 +23,7 @@ use Rattle.law.proofs.Kept.{Ranged, Says, cash_over, DealsKept}
 
 -- a deal with the interest of some days
 pub grown_is : (accounts next date days : ℕ) (d : Deal) → Ranged accounts next date d → date ≤ 65_535 → days ≤ most_days
-    → grownBy days d ≡ with_interest (accrued d.whole d.residue d.cash d.rate days (base_of d.currency)) d
+    → grown_by days d ≡ with_interest (accrued d.whole d.residue d.cash d.rate days (base_of d.currency)) d
 grown_is accounts next date days d r late few =
     let t : in_range d.whole d.residue d.cash d.rate days (base_of d.currency) ≡ true = grind (arith, nat_tests, r.cash, r.rate, r.whole, r.residue, late, few) in
     ap (λ b. with_growth (cond b (Some (accrued d.whole d.residue d.cash d.rate days (base_of d.currency))) None) d) t
@@ -38,10 +38,10 @@ module _ (o : Opening) (m : Meaning) (date next days new : ℕ) (ds : List Deal)
   grows d = with_interest (accrued d.whole d.residue d.cash d.rate days (base_of d.currency)) d
 
   -- each deal by itself
-  same_deals : (xs : List Deal) → Each (Ranged m.accounts next date) xs → map (grownBy days) xs ≡ map grows xs
+  same_deals : (xs : List Deal) → Each (Ranged m.accounts next date) xs → map (grown_by days) xs ≡ map grows xs
   same_deals [] r = refl
   same_deals (x ∷ xs) r =
-      ap (λ y. y ∷ map (grownBy days) xs) (grown_is m.accounts next date days x r.0 k.date_most few)
+      ap (λ y. y ∷ map (grown_by days) xs) (grown_is m.accounts next date days x r.0 k.date_most few)
       ∙ ap (λ ys. grows x ∷ ys) (same_deals xs r.1)
 
   says_c : (d : Deal) → Says o h ls d → Says o (e ∷ h) ls (grows d)
@@ -98,5 +98,5 @@ module _ (o : Opening) (m : Meaning) (date next days new : ℕ) (ds : List Deal)
         );
       }
 
-  pub grown_step : DealsKept o m new next (map (grownBy days) ds) ls (e ∷ h)
+  pub grown_step : DealsKept o m new next (map (grown_by days) ds) ls (e ∷ h)
   grown_step = subst (λ ds'. DealsKept o m new next ds' ls (e ∷ h)) (sym (same_deals ds k.ranged)) later_step

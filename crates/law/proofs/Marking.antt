@@ -15,14 +15,14 @@ use Rattle.memory.specs.declared.row.Weighing.TheVariants.{Margin, Haircut}
 use Rattle.memory.specs.Deals.{worth_by, target_by, target_of}
 use Rattle.memory.specs.Rows.{no_deal, no_line}
 use Rattle.memory.specs.Sound.{number, return_number}
-use Rattle.tables.specs.Values.{heldWorths}
+use Rattle.tables.specs.Values.{held_worths}
 use Rattle.valuation.specs.declared.price.Price.{Price}
 use Rattle.law.specs.Sums.{only, total}
 use Rattle.law.specs.World.{State}
 use Rattle.law.specs.Finding.{has_deal, deal_of}
 use Rattle.law.specs.Slips.{deliveries, lines_by}
 use Rattle.law.specs.Plans.{Plan, over, carried}
-use Rattle.law.specs.Calls.{mark, worthOnLine, worthOn, order_for, cutsFrom, marked, markValue, cover, moving, covering, marking, markPlan}
+use Rattle.law.specs.Calls.{mark, worth_on_line, worth_on, order_for, cuts_from, marked, mark_value, cover, moving, covering, marking, mark_plan}
 use Rattle.law.specs.Past.{Opening, Entry}
 use Rattle.law.proofs.Totals.{by_test, all_to, all_both, found_all, found_key}
 use Rattle.law.proofs.Histories.{Stock}
@@ -41,13 +41,13 @@ target_enough Margin margin sought = omega arith
 target_enough Haircut margin sought = omega arith
 
 -- a deal that is worth something has a line
-pub worth_lines : (ps : List Price) (d : Deal) (ls : List Line) → 0 < worthOn ps d ls → 0 < lines_on d.number ls
+pub worth_lines : (ps : List Price) (d : Deal) (ls : List Line) → 0 < worth_on ps d ls → 0 < lines_on d.number ls
 worth_lines ps d ls w = go ls (rw (← worth_total ps d ls) w)
   where
-    go : (xs : List Line) → 0 < total (λ l. only (eqb l.deal d.number) (worthOnLine ps d l)) xs → 0 < lines_on d.number xs
+    go : (xs : List Line) → 0 < total (λ l. only (eqb l.deal d.number) (worth_on_line ps d l)) xs → 0 < lines_on d.number xs
     go [] k = k
     go (x ∷ xs) k =
-        by_test (eqb x.deal d.number) (λ b. 0 < only b (worthOnLine ps d x) + total (λ l. only (eqb l.deal d.number) (worthOnLine ps d l)) xs → 0 < only b 1 + lines_on d.number xs)
+        by_test (eqb x.deal d.number) (λ b. 0 < only b (worth_on_line ps d x) + total (λ l. only (eqb l.deal d.number) (worth_on_line ps d l)) xs → 0 < only b 1 + lines_on d.number xs)
         (λ e k'. omega arith) (λ e k'. let i = go xs (omega (arith, k')) in omega (arith, i)) k
 
 -- what may be taken may stand on a line
@@ -87,12 +87,12 @@ module _ (o : Opening) (s : State) (h : List Entry) (k : Kept o s h) (ps : List 
   moving_kept (x ∷ xs) f st one some ok =
       stock_only o s h (mark ps places n) places s.phase (x ∷ xs) (over ps n) false k ok refl f st (even_over o s h k ps n (x ∷ xs) f one some)
 
-  covering_kept : (c : Option (List Pick)) → c ≡ cover s ps n → markValue s ps n < target_of d
+  covering_kept : (c : Option (List Pick)) → c ≡ cover s ps n → mark_value s ps n < target_of d
       → Passes s (covering s ps n c) places → Kept o (carried s (covering s ps n c)) (entry_for (mark ps places n) s (covering s ps n c) ∷ h)
   covering_kept None e less ok = nothing_moves o s h (mark ps places n) places s.phase true k ok refl
   covering_kept (Some picks) e less ok =
-      let held : List ℕ = heldWorths (worth_by d.weighing) d.currency ps n s.lines in
-      let order = order_for d (target_of d - markValue s ps n) in
+      let held : List ℕ = held_worths (worth_by d.weighing) d.currency ps n s.lines in
+      let order = order_for d (target_of d - mark_value s ps n) in
       let c = gathered_covers s.book (worth_by d.weighing) ps order held (worth_none d.weighing) (worth_more d.weighing) picks e in
       let some : 0 < length picks = covers_some s.book (worth_by d.weighing) ps order held picks c (omega (arith, less)) in
       let f = deliveries_fit Mark d s.book.resources s.deals stands same s.next_line picks s.lines (picks_stand s.book (worth_by d.weighing) ps order held s.book.resources picks listed c) in
@@ -108,17 +108,17 @@ module _ (o : Opening) (s : State) (h : List Entry) (k : Kept o s h) (ps : List 
       (all_to _ _ (λ l p. record { listed = p.0.0; is = p.0.1; low = p.1.low }) s.lines
       (all_both _ _ s.lines (found_each return_number no_line s.lines k.lines.rise) k.lines.placed))
 
-  pub fair_cuts : target_of d ≤ markValue s ps n → Fair ps d s.book.resources s.deals s.next_line s.lines (cutsFrom ps d s.book (markValue s ps n) (reverse s.lines))
+  pub fair_cuts : target_of d ≤ mark_value s ps n → Fair ps d s.book.resources s.deals s.next_line s.lines (cuts_from ps d s.book (mark_value s ps n) (reverse s.lines))
   fair_cuts enough =
-      cuts_fair ps d s.book.resources s.deals stands same s.book (markValue s ps n) s.next_line (reverse s.lines) s.lines (distinct_reverse return_number s.lines k.lines.rise) met refl enough
+      cuts_fair ps d s.book.resources s.deals stands same s.book (mark_value s ps n) s.next_line (reverse s.lines) s.lines (distinct_reverse return_number s.lines k.lines.rise) met refl enough
 
-  cutting_kept : target_of d < markValue s ps n
-      → Passes s (moving s ps n (cutsFrom ps d s.book (markValue s ps n) (reverse s.lines))) places
-      → Kept o (carried s (moving s ps n (cutsFrom ps d s.book (markValue s ps n) (reverse s.lines)))) (entry_for (mark ps places n) s (moving s ps n (cutsFrom ps d s.book (markValue s ps n) (reverse s.lines))) ∷ h)
+  cutting_kept : target_of d < mark_value s ps n
+      → Passes s (moving s ps n (cuts_from ps d s.book (mark_value s ps n) (reverse s.lines))) places
+      → Kept o (carried s (moving s ps n (cuts_from ps d s.book (mark_value s ps n) (reverse s.lines)))) (entry_for (mark ps places n) s (moving s ps n (cuts_from ps d s.book (mark_value s ps n) (reverse s.lines))) ∷ h)
   cutting_kept more ok =
       let f = fair_cuts (omega (arith, more)) in
-      moving_kept (cutsFrom ps d s.book (markValue s ps n) (reverse s.lines)) f.fits f.stocks (all_to _ _ (λ x e. e ∙ is_n) _ f.one_deal)
-      (subst (λ i. 0 < lines_on i (lines_by (cutsFrom ps d s.book (markValue s ps n) (reverse s.lines)) s.lines)) is_n
+      moving_kept (cuts_from ps d s.book (mark_value s ps n) (reverse s.lines)) f.fits f.stocks (all_to _ _ (λ x e. e ∙ is_n) _ f.one_deal)
+      (subst (λ i. 0 < lines_on i (lines_by (cuts_from ps d s.book (mark_value s ps n) (reverse s.lines)) s.lines)) is_n
       (worth_lines ps d _ (omega (arith, f.worth, target_some)))) ok
 
   abbrev Goes : Plan → Type 0
@@ -126,14 +126,14 @@ module _ (o : Opening) (s : State) (h : List Entry) (k : Kept o s h) (ps : List 
 
   marking_kept : Goes (marking s ps n)
   marking_kept =
-      by_test (ltb (markValue s ps n) (target_of d)) (λ b. ltb (markValue s ps n) (target_of d) ≡ b → Goes (cond b (covering s ps n (cover s ps n)) (cond (ltb (target_of d) (markValue s ps n)) (moving s ps n (cutsFrom ps d s.book (markValue s ps n) (reverse s.lines))) (moving s ps n []))))
+      by_test (ltb (mark_value s ps n) (target_of d)) (λ b. ltb (mark_value s ps n) (target_of d) ≡ b → Goes (cond b (covering s ps n (cover s ps n)) (cond (ltb (target_of d) (mark_value s ps n)) (moving s ps n (cuts_from ps d s.book (mark_value s ps n) (reverse s.lines))) (moving s ps n []))))
       (λ e _. covering_kept (cover s ps n) refl (ltb-true _ _ e))
-      (λ e _. by_test (ltb (target_of d) (markValue s ps n)) (λ b. Goes (cond b (moving s ps n (cutsFrom ps d s.book (markValue s ps n) (reverse s.lines))) (moving s ps n [])))
+      (λ e _. by_test (ltb (target_of d) (mark_value s ps n)) (λ b. Goes (cond b (moving s ps n (cuts_from ps d s.book (mark_value s ps n) (reverse s.lines))) (moving s ps n [])))
       (λ t. cutting_kept (ltb-true _ _ t))
       (λ t ok. nothing_moves o s h (mark ps places n) places s.phase false k ok refl)) refl
 
-  pub mark_kept : (p : Plan) → Passes s p places → markPlan s ps n ≡ Ok p → Kept o (carried s p) (entry_for (mark ps places n) s p ∷ h)
-  unfolding markPlan
+  pub mark_kept : (p : Plan) → Passes s p places → mark_plan s ps n ≡ Ok p → Kept o (carried s p) (entry_for (mark ps places n) s p ∷ h)
+  unfolding mark_plan
   mark_kept p ok e =
       let q = plan_ok _ _ p e in
       subst Goes q.1 marking_kept ok

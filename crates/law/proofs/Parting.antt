@@ -10,7 +10,7 @@ use Rattle.memory.specs.Sound.{return_number, parts_on}
 use Rattle.sharing.specs.Parts.{total_of}
 use Rattle.sharing.specs.Tables.{picked}
 use Rattle.sharing.proofs.Scattered.{shared_keeps, shared_others, shared_whole}
-use Rattle.tables.specs.Values.{lineWorth, on_deal, with_part}
+use Rattle.tables.specs.Values.{line_worth, on_deal, with_part}
 use Rattle.valuation.specs.declared.price.Price.{Price}
 use Rattle.law.specs.Sums.{only, total}
 use Rattle.law.specs.Finding.{deal_of}
@@ -52,7 +52,7 @@ bare l = with_part l 0
 pub parted_bare : (sh : Sharing) (ds : List Deal) (ls : List Line) → map bare (parted sh ds ls) ≡ map bare ls
 parted_bare asis ds ls = refl
 parted_bare (over ps n) ds ls =
-    shared_keeps (on_deal n) (lineWorth (worth_by (deal_of n ds).weighing) (deal_of n ds).currency ps) with_part (deal_of n ds).cash ls bare (λ x p. refl)
+    shared_keeps (on_deal n) (line_worth (worth_by (deal_of n ds).weighing) (deal_of n ds).currency ps) with_part (deal_of n ds).cash ls bare (λ x p. refl)
 
 module _ (sh : Sharing) (ds : List Deal) (ls : List Line) where
   -- a sum that looks at no part
@@ -93,10 +93,10 @@ module _ (ps : List Price) (n : ℕ) (ds : List Deal) (ls : List Line) where
   pub parted_whole : 0 < lines_on n ls → total (λ l. only (eqb l.deal n) l.part) (parted (over ps n) ds ls) ≡ (deal_of n ds).cash
   parted_whole h =
       sym (picked_total (λ l. l.part) n (parted (over ps n) ds ls))
-      ∙ shared_whole (on_deal n) (lineWorth (worth_by (deal_of n ds).weighing) (deal_of n ds).currency ps) with_part (deal_of n ds).cash ls (λ l. l.part) (λ l p. refl) (λ l p. refl) (picked_some _ n ls h)
+      ∙ shared_whole (on_deal n) (line_worth (worth_by (deal_of n ds).weighing) (deal_of n ds).currency ps) with_part (deal_of n ds).cash ls (λ l. l.part) (λ l p. refl) (λ l p. refl) (picked_some _ n ls h)
 
   pub parted_others : (m : ℕ) → (m ≡ n → ⊥) → total (λ l. only (eqb l.deal m) l.part) (parted (over ps n) ds ls) ≡ total (λ l. only (eqb l.deal m) l.part) ls
   parted_others m ne =
       sym (picked_total (λ l. l.part) m (parted (over ps n) ds ls))
-      ∙ ap total_of (shared_others (on_deal n) (lineWorth (worth_by (deal_of n ds).weighing) (deal_of n ds).currency ps) with_part (deal_of n ds).cash ls (on_deal m) (λ l. l.part) (λ l p. refl) (λ l e. grind (arith, nat_tests, ne, e)))
+      ∙ ap total_of (shared_others (on_deal n) (line_worth (worth_by (deal_of n ds).weighing) (deal_of n ds).currency ps) with_part (deal_of n ds).cash ls (on_deal m) (λ l. l.part) (λ l p. refl) (λ l e. grind (arith, nat_tests, ne, e)))
       ∙ picked_total (λ l. l.part) m ls

@@ -4,15 +4,15 @@ use Rattle.std.specs.Result.{result_unwrap_or}
 use Rattle.std.proofs.lemmas.Bool.{and_parts, ltb-true}
 use Rattle.memory.specs.declared.place.Fault.{Fault}
 use Rattle.memory.specs.declared.place.Table.TheVariants as table
-use Rattle.memory.specs.Sound.{first_of, at}
+use Rattle.memory.specs.Sound.{first_found, at}
 use Rattle.memory.proofs.Filled.{not_some}
 use Rattle.sides.specs.declared.refusal.Refusal.{Refusal}
 use Rattle.valuation.specs.declared.price.Price.{Price}
-use Rattle.valuation.specs.Prices.{fault_of as priceFaultOf}
+use Rattle.valuation.specs.Prices.{fault_of as price_fault_of}
 use Rattle.valuation.proofs.Faults.{faultless}
 use Rattle.law.specs.World.{State, World, state_of, world_of}
 use Rattle.law.specs.Plans.{Plan, checked, carried}
-use Rattle.law.specs.Calls.{Call, settle, return_line, substitute, amend, open_day_end, mark, close_day_end, lift_day_end, pay, plan_of, places_of, prices_of, settlePlan, settleRefusals, returnPlan, returnRefusals, substitutePlan, substituteRefusals, admitted, itsDeal, payPlan, payRefusals, markPlan, markRefusals}
+use Rattle.law.specs.Calls.{Call, settle, return_line, substitute, amend, open_day_end, mark, close_day_end, lift_day_end, pay, plan_of, places_of, prices_of, settle_plan, settle_refusals, return_plan, return_refusals, substitute_plan, substitute_refusals, admitted, its_deal, pay_plan, pay_refusals, mark_plan, mark_refusals}
 use Rattle.law.specs.Outcomes.{prices_fault, passed, or_broken, outcome, world_by}
 use Rattle.law.specs.Past.{Opening, Entry, fresh_state, recorded_by, Past, fresh, called}
 use Rattle.law.proofs.Kept.{Kept}
@@ -28,7 +28,7 @@ use Rattle.law.proofs.Worlds.{state_world}
 
 -- ── what it takes to be accepted ──
 
-first_none : (a b : Option Fault) → first_of a b ≡ None → (a ≡ None) × (b ≡ None)
+first_none : (a b : Option Fault) → first_found a b ≡ None → (a ≡ None) × (b ≡ None)
 first_none None b e = (refl, e)
 first_none (Some f) b e = not_some f (sym e)
 
@@ -45,7 +45,7 @@ passed_ok places s (Ok q) p k = go (checked places s q) refl k
     go (Err x) e m = not_ok x p m
 
 pub prices_listed : (resources : ℕ) (ps : List Price) → prices_fault resources (Some ps) ≡ None → 3 + length ps ≡ resources
-prices_listed resources ps e = (faultless resources ps (none_at (priceFaultOf resources ps) e)).count
+prices_listed resources ps e = (faultless resources ps (none_at (price_fault_of resources ps) e)).count
   where
     none_at : (i : Option ℕ) → at table.Prices i ≡ None → None ≡ i
     none_at None k = refl
@@ -55,27 +55,27 @@ prices_listed resources ps e = (faultless resources ps (none_at (priceFaultOf re
 
 pub call_kept : (o : Opening) (s : State) (h : List Entry) (c : Call) (p : Plan) → Kept o s h → prices_fault s.book.resources (prices_of c) ≡ None
     → plan_of c s ≡ Ok p → Passes s p (places_of c) → Kept o (carried s p) (entry_for c s p ∷ h)
-unfolding settlePlan returnPlan substitutePlan payPlan markPlan
+unfolding settle_plan return_plan substitute_plan pay_plan mark_plan
 call_kept o s h (settle ps places t) p k prices e ok =
-    let c = none_holds (settleRefusals s ps t) (plan_ok _ _ p e).0 in
+    let c = none_holds (settle_refusals s ps t) (plan_ok _ _ p e).0 in
     let a = and_parts (ltb t.giver s.book.accounts) _ (not_true_false _ c.1.1.1.0) in
     settle_kept o s h k ps t (not_true_false _ c.1.0) (ltb-true _ _ a.0) (ltb-true _ _ a.1) (not_true_false _ c.1.1.1.1.0) (prices_listed _ ps prices) p places ok e
 call_kept o s h (return_line places n) p k prices e ok =
-    let c = none_holds (returnRefusals s n) (plan_ok _ _ p e).0 in
+    let c = none_holds (return_refusals s n) (plan_ok _ _ p e).0 in
     return_kept o s h k n (not_true_false _ c.1.0) p places ok e
 call_kept o s h (substitute ps places n out security) p k prices e ok =
-    let c = none_holds (substituteRefusals s n ps out security) (plan_ok _ _ p e).0 in
-    let a = and_parts (admitted ps (itsDeal s n) security) _ (not_true_false _ c.1.1.1.1.0) in
+    let c = none_holds (substitute_refusals s n ps out security) (plan_ok _ _ p e).0 in
+    let a = and_parts (admitted ps (its_deal s n) security) _ (not_true_false _ c.1.1.1.1.0) in
     substitute_kept o s h k n ps out security (not_true_false _ c.1.0) (not_true_false _ c.1.1.0) a.1 p places ok e
 call_kept o s h (amend n rate due) p k prices e ok = amend_step o s h k p 0 ok n rate due e
 call_kept o s h open_day_end p k prices e ok = open_step o s h k p 0 ok e
 call_kept o s h (mark ps places n) p k prices e ok =
-    let c = none_holds (markRefusals s ps n) (plan_ok _ _ p e).0 in
+    let c = none_holds (mark_refusals s ps n) (plan_ok _ _ p e).0 in
     mark_kept o s h k ps places n (not_true_false _ c.1.0) (prices_listed _ ps prices) p ok e
 call_kept o s h (close_day_end date) p k prices e ok = close_step o s h k p 0 ok date e
 call_kept o s h lift_day_end p k prices e ok = lift_step o s h k p 0 ok e
 call_kept o s h (pay places n) p k prices e ok =
-    let c = none_holds (payRefusals s n) (plan_ok _ _ p e).0 in
+    let c = none_holds (pay_refusals s n) (plan_ok _ _ p e).0 in
     pay_kept o s h k n (not_true_false _ c.1.0) c.1.1.0 p places ok e
 
 -- ── every past ──

@@ -14,7 +14,7 @@ use Rattle.law.specs.World.{State}
 use Rattle.law.specs.Finding.{replaced, has_deal, deal_of}
 use Rattle.law.specs.Slips.{movements_of, lines_by}
 use Rattle.law.specs.Plans.{Plan, carried}
-use Rattle.law.specs.Calls.{pay, paySlips, has_lines, payPlan}
+use Rattle.law.specs.Calls.{pay, pay_slips, has_lines, pay_plan}
 use Rattle.law.specs.Past.{Opening, Entry, back_on, interest_of, comes_to, goes_from, is_interest}
 use Rattle.law.proofs.Totals.{by_test, total_zero, all_to, all_both, found_key}
 use Rattle.law.proofs.Lookups.{has_gone, found_gone}
@@ -39,7 +39,7 @@ module _ (o : Opening) (s : State) (h : List Entry) (k : Kept o s h) (n : ℕ) (
   d = deal_of n s.deals
 
   abbrev xs : List Slip
-  xs = paySlips s n
+  xs = pay_slips s n
 
   abbrev es : List Deal
   es = replaced number n (λ _. []) s.deals
@@ -57,8 +57,8 @@ module _ (o : Opening) (s : State) (h : List Entry) (k : Kept o s h) (n : ℕ) (
   fits : Fitting s.book.resources es s.next_line xs s.lines
   fits = subst (λ ys. Fitting s.book.resources es s.next_line ys s.lines) (append-nil xs) (cash_fits Pay d 0 d.giver d.taker d.whole s.book.resources es s.next_line [] s.lines tt)
 
-  pub pay_kept : (p : Plan) (places : ℕ) → Passes s p places → payPlan s n ≡ Ok p → Kept o (carried s p) (entry_for (pay places n) s p ∷ h)
-  unfolding payPlan
+  pub pay_kept : (p : Plan) (places : ℕ) → Passes s p places → pay_plan s n ≡ Ok p → Kept o (carried s p) (entry_for (pay places n) s p ∷ h)
+  unfolding pay_plan
   pay_kept p places ok e =
       let q = plan_ok _ _ p e in
       let z : s.next_deal ≡ s.next_deal + 0 = omega arith in

@@ -16,7 +16,7 @@ use Rattle.law.specs.World.{State}
 use Rattle.law.specs.Finding.{replaced, has_deal, deal_of, has_line}
 use Rattle.law.specs.Slips.{back_slip, cash_slips, lessened, movements_of, lines_by}
 use Rattle.law.specs.Plans.{Plan, carried}
-use Rattle.law.specs.Calls.{return_line, theLine, itsDeal, returnSlips, returnPlan}
+use Rattle.law.specs.Calls.{return_line, the_line, its_deal, return_slips, return_plan}
 use Rattle.law.specs.Past.{Opening, Entry, back_on, interest_of, comes_to, goes_from, is_interest}
 use Rattle.law.specs.Agree.{gives_in, takes_in}
 use Rattle.law.proofs.Totals.{total_replaced, all_to, found_all, found_key}
@@ -32,13 +32,13 @@ use Rattle.law.proofs.Stepping.{entry_for, joined}
 
 module _ (o : Opening) (s : State) (h : List Entry) (k : Kept o s h) (n : ℕ) (there : has_line n s.lines ≡ true) where
   abbrev l : Line
-  l = theLine s n
+  l = the_line s n
 
   abbrev d : Deal
-  d = itsDeal s n
+  d = its_deal s n
 
   abbrev xs : List Slip
-  xs = returnSlips s n
+  xs = return_slips s n
 
   pub line_placed : Placed s.book.resources s.deals s.next_line l
   line_placed = found_all return_number (Placed s.book.resources s.deals s.next_line) no_line n s.lines there k.lines.placed
@@ -95,8 +95,8 @@ module _ (o : Opening) (s : State) (h : List Entry) (k : Kept o s h) (n : ℕ) (
   stock_slip : Slip
   stock_slip = back_slip Return d n l.security l.quantity
 
-  pub return_kept : (p : Plan) (places : ℕ) → Passes s p places → returnPlan s n ≡ Ok p → Kept o (carried s p) (entry_for (return_line places n) s p ∷ h)
-  unfolding returnPlan
+  pub return_kept : (p : Plan) (places : ℕ) → Passes s p places → return_plan s n ≡ Ok p → Kept o (carried s p) (entry_for (return_line places n) s p ∷ h)
+  unfolding return_plan
   return_kept p places ok e =
       let q = plan_ok _ _ p e in
       let z : s.next_deal ≡ s.next_deal + 0 = omega arith in

@@ -27,7 +27,7 @@ use Rattle.law.specs.World.{State}
 use Rattle.law.specs.Finding.{has_deal, deal_of}
 use Rattle.law.specs.Slips.{cash_slips, deliveries, lines_by}
 use Rattle.law.specs.Plans.{Plan, over, parted, carried}
-use Rattle.law.specs.Calls.{settle, order_for, new_deal, basket, settleSlips, settlePlan}
+use Rattle.law.specs.Calls.{settle, order_for, new_deal, basket, settle_slips, settle_plan}
 use Rattle.law.specs.Past.{Opening, Entry, back_on, interest_of, comes_to, goes_from, is_interest}
 use Rattle.law.specs.Agree.{gives_in, takes_in, unit_in}
 use Rattle.law.proofs.Totals.{total_append, total_zero, all_to, all_append, has_none, has_push, found_push_old, found_push_new}
@@ -75,7 +75,7 @@ module _ (o : Opening) (s : State) (h : List Entry) (k : Kept o s h) (ps : List 
   ys = deliveries Settle d s.next_line picks
 
   abbrev xs : List Slip
-  xs = settleSlips s ps t
+  xs = settle_slips s ps t
 
   abbrev es : List Deal
   es = s.deals ++ (d ∷ [])
@@ -156,8 +156,8 @@ module _ (o : Opening) (s : State) (h : List Entry) (k : Kept o s h) (ps : List 
   abbrev C : List Slip
   C = cash_slips Settle d 0 d.taker d.giver d.cash
 
-  pub settle_kept : (p : Plan) (places : ℕ) → Passes s p places → settlePlan s ps t ≡ Ok p → Kept o (carried s p) (entry_for (settle ps places t) s p ∷ h)
-  unfolding settlePlan
+  pub settle_kept : (p : Plan) (places : ℕ) → Passes s p places → settle_plan s ps t ≡ Ok p → Kept o (carried s p) (entry_for (settle ps places t) s p ∷ h)
+  unfolding settle_plan
   settle_kept p places ok e =
       let q = plan_ok _ _ p e in
       let e' : Entry = record { call = settle ps places t; next = n; slips = xs } in

@@ -20,7 +20,7 @@ use Rattle.valuation.specs.declared.price.Price.{Price}
 use Rattle.valuation.proofs.Bests.{largest_is}
 use Rattle.law.specs.Finding.{has, replaced, has_line, line_of}
 use Rattle.law.specs.Slips.{movement_of, movements_of, lessened, lines_by}
-use Rattle.law.specs.Calls.{unitsWorth, worthOnLine, worthOn, cut_of, cuts, cutSlip, valueCut, cutsFrom}
+use Rattle.law.specs.Calls.{units_worth, worth_on_line, worth_on, cut_of, cuts, cut_slip, value_cut, cuts_from}
 use Rattle.law.specs.Sparing.{Spent}
 use Rattle.law.proofs.Totals.{by_test, all_to, all_both, has_push}
 use Rattle.law.proofs.Ordered.{Ordered, Inside, ordered_replaced, all_changed}
@@ -48,19 +48,19 @@ module _ (ps : List Price) (d : Deal) where
         | inr z ↦ inr (omega (arith, z, v))
       ]
 
-  moved_free : (m : Meaning) (value s : ℕ) (l : Line) → free (moved m (movement_of (cutSlip ps d m value l))) d.taker s ≤ free m d.taker s
+  moved_free : (m : Meaning) (value s : ℕ) (l : Line) → free (moved m (movement_of (cut_slip ps d m value l))) d.taker s ≤ free m d.taker s
   moved_free m value s l = grind (arith, nat_tests)
 
-  moved_free_here : (m : Meaning) (value : ℕ) (l : Line) → free (moved m (movement_of (cutSlip ps d m value l))) d.taker l.security ≡ free m d.taker l.security - cut_of ps d m value l
+  moved_free_here : (m : Meaning) (value : ℕ) (l : Line) → free (moved m (movement_of (cut_slip ps d m value l))) d.taker l.security ≡ free m d.taker l.security - cut_of ps d m value l
   moved_free_here m value l = grind (arith, nat_tests)
 
   -- what is left of a line that was cut
-  spent_cut : (m : Meaning) (value : ℕ) (l : Line) → Cut ps d m value l → worthOnLine ps d l ≤ value → (eqb l.quantity (cut_of ps d m value l) ≡ false)
-      → Spent ps d (moved m (movement_of (cutSlip ps d m value l))) (valueCut ps d m value l) (less_quantity (cut_of ps d m value l) l)
+  spent_cut : (m : Meaning) (value : ℕ) (l : Line) → Cut ps d m value l → worth_on_line ps d l ≤ value → (eqb l.quantity (cut_of ps d m value l) ≡ false)
+      → Spent ps d (moved m (movement_of (cut_slip ps d m value l))) (value_cut ps d m value l) (less_quantity (cut_of ps d m value l) l)
   spent_cut m value l c part left on w =
       let q : ℕ = cut_of ps d m value l in
       let bound : ℕ = min (free m d.taker l.security) l.quantity in
-      let test : ℕ → Bool = leaves (unitsWorth ps d l.security) l.quantity (target_of d - (value - worthOnLine ps d l)) in
+      let test : ℕ → Bool = leaves (units_worth ps d l.security) l.quantity (target_of d - (value - worth_on_line ps d l)) in
       let is : IsLargest test bound (largest_up_to test bound) = largest_is test bound in
       let rest = rest_worth ps d q l c.worth in
       elim (cases_lt q (free m d.taker l.security)) [
@@ -72,21 +72,21 @@ module _ (ps : List Price) (d : Deal) where
               | inl t ↦ (let z : ⊥ = omega (arith, is.largest (q + 1) next t) in absurd z)
               | inr t ↦ t
             ] in
-            let short : unitsWorth ps d l.security (l.quantity - (q + 1)) < target_of d - (value - worthOnLine ps d l) = leb-false _ _ fails in
+            let short : units_worth ps d l.security (l.quantity - (q + 1)) < target_of d - (value - worth_on_line ps d l) = leb-false _ _ fails in
             let same : l.quantity - q - 1 ≡ l.quantity - (q + 1) = omega arith in
-            inr (omega (arith, short, rest, ap (unitsWorth ps d l.security) same))
+            inr (omega (arith, short, rest, ap (units_worth ps d l.security) same))
       ]
 
   -- a line that could not be cut
-  spent_kept : (m : Meaning) (value : ℕ) (l : Line) → cuts ps d m value l ≡ false → worthOnLine ps d l ≤ value → 1 ≤ l.quantity → Spent ps d m value l
+  spent_kept : (m : Meaning) (value : ℕ) (l : Line) → cuts ps d m value l ≡ false → worth_on_line ps d l ≤ value → 1 ≤ l.quantity → Spent ps d m value l
   spent_kept m value l out part some on w =
       let bound : ℕ = min (free m d.taker l.security) l.quantity in
-      let test : ℕ → Bool = leaves (unitsWorth ps d l.security) l.quantity (target_of d - (value - worthOnLine ps d l)) in
+      let test : ℕ → Bool = leaves (units_worth ps d l.security) l.quantity (target_of d - (value - worth_on_line ps d l)) in
       let is : IsLargest test bound (largest_up_to test bound) = largest_is test bound in
       let none : cut_of ps d m value l ≡ 0 =
       elim (and_cases (on_deal d.number l) _ out) [
         | inl f ↦ absurd (both_ways _ f (eq-eqb _ _ on))
-        | inr f ↦ elim (and_cases (ltb 0 (worthOnLine ps d l)) _ f) [
+        | inr f ↦ elim (and_cases (ltb 0 (worth_on_line ps d l)) _ f) [
           | inl g ↦ absurd (both_ways _ g (lt-ltb _ _ w))
           | inr g ↦ omega (arith, ltb-false 0 (cut_of ps d m value l) g)
         ]
@@ -99,7 +99,7 @@ module _ (ps : List Price) (d : Deal) where
               | inl t ↦ (let z : ⊥ = omega (arith, is.largest 1 next t, none) in absurd z)
               | inr t ↦ t
             ] in
-            let short : unitsWorth ps d l.security (l.quantity - 1) < target_of d - (value - worthOnLine ps d l) = leb-false _ _ fails in
+            let short : units_worth ps d l.security (l.quantity - 1) < target_of d - (value - worth_on_line ps d l) = leb-false _ _ fails in
             inr (omega (arith, short, part))
       ]
 
@@ -116,9 +116,9 @@ module _ (ps : List Price) (d : Deal) where
   waits_next l rest m value x ne (inr k) = inr k
 
   pub cuts_spent : (m : Meaning) (value : ℕ) (rest cur : List Line) → Distinct return_number rest → Each (Met ps d cur) rest → Each (λ l. 1 ≤ l.quantity) rest → Ordered return_number cur
-      → worthOn ps d cur ≡ value → target_of d ≤ value → Each (Waits rest m value) cur
-      → Each (Spent ps d (run m (movements_of (cutsFrom ps d m value rest))) (worthOn ps d (lines_by (cutsFrom ps d m value rest) cur))) (lines_by (cutsFrom ps d m value rest) cur)
-  unfolding cutsFrom lines_by run
+      → worth_on ps d cur ≡ value → target_of d ≤ value → Each (Waits rest m value) cur
+      → Each (Spent ps d (run m (movements_of (cuts_from ps d m value rest))) (worth_on ps d (lines_by (cuts_from ps d m value rest) cur))) (lines_by (cuts_from ps d m value rest) cur)
+  unfolding cuts_from lines_by run
   cuts_spent m value [] cur apart met some rise e enough waits =
       all_to _ _ (λ x k. subst (λ v. Spent ps d m v x) (sym e) (elim k [ inl t ↦ absurd (both_ways false refl t) | inr s ↦ s ])) cur waits
   cuts_spent m value (l ∷ rest) cur apart met some rise e enough waits =
@@ -127,7 +127,7 @@ module _ (ps : List Price) (d : Deal) where
       let same : (x : Line) → line_of x.number cur ≡ x → x.number ≡ l.number → x ≡ l = λ x is n. sym is ∙ ap (λ i. line_of i cur) n ∙ met.0.is in
       elim (cases_Bool (cuts ps d m value l)) [
         | inr out ↦
-            subst (λ b. Each (Spent ps d (run m (movements_of (cond b (cutSlip ps d m value l ∷ cutsFrom ps d (moved m (movement_of (cutSlip ps d m value l))) (valueCut ps d m value l) rest) (cutsFrom ps d m value rest)))) (worthOn ps d (lines_by (cond b (cutSlip ps d m value l ∷ cutsFrom ps d (moved m (movement_of (cutSlip ps d m value l))) (valueCut ps d m value l) rest) (cutsFrom ps d m value rest)) cur))) (lines_by (cond b (cutSlip ps d m value l ∷ cutsFrom ps d (moved m (movement_of (cutSlip ps d m value l))) (valueCut ps d m value l) rest) (cutsFrom ps d m value rest)) cur)) (sym out)
+            subst (λ b. Each (Spent ps d (run m (movements_of (cond b (cut_slip ps d m value l ∷ cuts_from ps d (moved m (movement_of (cut_slip ps d m value l))) (value_cut ps d m value l) rest) (cuts_from ps d m value rest)))) (worth_on ps d (lines_by (cond b (cut_slip ps d m value l ∷ cuts_from ps d (moved m (movement_of (cut_slip ps d m value l))) (value_cut ps d m value l) rest) (cuts_from ps d m value rest)) cur))) (lines_by (cond b (cut_slip ps d m value l ∷ cuts_from ps d (moved m (movement_of (cut_slip ps d m value l))) (value_cut ps d m value l) rest) (cuts_from ps d m value rest)) cur)) (sym out)
             (cuts_spent m value rest cur apart.1 met.1 some.1 rise e enough
             (all_to (λ x. Waits (l ∷ rest) m value x × ((has_line x.number cur ≡ true) × (line_of x.number cur ≡ x))) (Waits rest m value) (λ x k. elim (cases_eq x.number l.number) [
               | inl n ↦ inr (subst (Spent ps d m value) (sym (same x k.1.1 n)) (λ on w. spent_kept m value l out (omega (arith, line_part_lem ps d cur l met.0 on, e)) some.0 on w))
@@ -135,15 +135,15 @@ module _ (ps : List Price) (d : Deal) where
             ]) cur (all_both _ _ cur waits each)))
         | inl cut ↦
             let on : l.deal ≡ d.number = eqb-true _ _ (and_parts (on_deal d.number l) _ cut).0 in
-            let part : worthOnLine ps d l ≤ value = omega (arith, line_part_lem ps d cur l met.0 on, e) in
+            let part : worth_on_line ps d l ≤ value = omega (arith, line_part_lem ps d cur l met.0 on, e) in
             let c : Cut ps d m value l = cut_is ps d m value l cut enough part in
             let q : ℕ = cut_of ps d m value l in
-            let m1 : Meaning = moved m (movement_of (cutSlip ps d m value l)) in
-            let v1 : ℕ = valueCut ps d m value l in
-            let full : worthOnLine ps d l ≡ unitsWorth ps d l.security l.quantity = quantity_priced ps d l.security l.quantity (priced_some ps d l.security l.quantity c.worth) in
+            let m1 : Meaning = moved m (movement_of (cut_slip ps d m value l)) in
+            let v1 : ℕ = value_cut ps d m value l in
+            let full : worth_on_line ps d l ≡ units_worth ps d l.security l.quantity = quantity_priced ps d l.security l.quantity (priced_some ps d l.security l.quantity c.worth) in
             let less : v1 ≤ value = omega (arith, part, full, units_more ps d l.security (l.quantity - q) l.quantity (omega arith)) in
             let next : List Line = replaced return_number l.number (lessened q) cur in
-            subst (λ b. Each (Spent ps d (run m (movements_of (cond b (cutSlip ps d m value l ∷ cutsFrom ps d m1 v1 rest) (cutsFrom ps d m value rest)))) (worthOn ps d (lines_by (cond b (cutSlip ps d m value l ∷ cutsFrom ps d m1 v1 rest) (cutsFrom ps d m value rest)) cur))) (lines_by (cond b (cutSlip ps d m value l ∷ cutsFrom ps d m1 v1 rest) (cutsFrom ps d m value rest)) cur)) (sym cut)
+            subst (λ b. Each (Spent ps d (run m (movements_of (cond b (cut_slip ps d m value l ∷ cuts_from ps d m1 v1 rest) (cuts_from ps d m value rest)))) (worth_on ps d (lines_by (cond b (cut_slip ps d m value l ∷ cuts_from ps d m1 v1 rest) (cuts_from ps d m value rest)) cur))) (lines_by (cond b (cut_slip ps d m value l ∷ cuts_from ps d m1 v1 rest) (cuts_from ps d m value rest)) cur)) (sym cut)
             (cuts_spent m1 v1 rest next apart.1
             (all_to _ _ (λ x p. met_after ps d q l.number cur x p.0 p.1) rest (all_both _ _ rest apart.0 met.1))
             some.1

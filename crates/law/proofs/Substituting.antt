@@ -18,7 +18,7 @@ use Rattle.law.specs.World.{State}
 use Rattle.law.specs.Finding.{replaced, has_deal, deal_of, has_line}
 use Rattle.law.specs.Slips.{out_slip, new_line, lessened, lines_by}
 use Rattle.law.specs.Plans.{Plan, over, carried}
-use Rattle.law.specs.Calls.{substitute, theLine, itsDeal, unitsWorth, quantityWorth, replacement, substituteSlips, substitutes, substitutePlan}
+use Rattle.law.specs.Calls.{substitute, the_line, its_deal, units_worth, quantity_worth, replacement, substitute_slips, substitutes, substitute_plan}
 use Rattle.law.specs.Past.{Opening, Entry}
 use Rattle.law.proofs.Totals.{total_append, found_all, found_key}
 use Rattle.law.proofs.Rows.{Placed}
@@ -36,13 +36,13 @@ some_is None N S c e = absurd (both_ways false refl e)
 module _ (o : Opening) (s : State) (h : List Entry) (k : Kept o s h) (n : ℕ) (ps : List Price) (out security : ℕ)
     (there : has_line n s.lines ≡ true) (stated : substitutes s n ps out security ≡ true) (Has-one : is_some (replacement s n ps out security) ≡ true) where
   abbrev l : Line
-  l = theLine s n
+  l = the_line s n
 
   abbrev d : Deal
-  d = itsDeal s n
+  d = its_deal s n
 
   abbrev xs : List Slip
-  xs = substituteSlips s n ps out security
+  xs = substitute_slips s n ps out security
 
   placed : Placed s.book.resources s.deals s.next_line l
   placed = found_all return_number (Placed s.book.resources s.deals s.next_line) no_line n s.lines there k.lines.placed
@@ -54,7 +54,7 @@ module _ (o : Opening) (s : State) (h : List Entry) (k : Kept o s h) (n : ℕ) (
   same = ap (λ i. deal_of i s.deals) deal_number
 
   -- the smallest quantity that is worth enough
-  pub quantity_in_lem : IsSmallest (at_least (unitsWorth ps d security) (quantityWorth ps d l.security out)) (min most_units (free s.book d.giver security)) (unwrap_or (replacement s n ps out security) 0)
+  pub quantity_in_lem : IsSmallest (at_least (units_worth ps d security) (quantity_worth ps d l.security out)) (min most_units (free s.book d.giver security)) (unwrap_or (replacement s n ps out security) 0)
   quantity_in_lem = some_is (replacement s n ps out security) _ _ (smallest_is _ (min most_units (free s.book d.giver security))) Has-one
 
   fits : Fitting s.book.resources s.deals s.next_line xs s.lines
@@ -98,9 +98,9 @@ module _ (o : Opening) (s : State) (h : List Entry) (k : Kept o s h) (n : ℕ) (
       let f : Line → ℕ = λ x. only (eqb x.deal l.deal) 1 in
       omega (arith, total_append f (replaced return_number n (lessened out) s.lines) (new ∷ []), ap (λ b. only b 1) t)
 
-  pub substitute_kept : (p : Plan) (places : ℕ) → Passes s p places → substitutePlan s n ps out security ≡ Ok p
+  pub substitute_kept : (p : Plan) (places : ℕ) → Passes s p places → substitute_plan s n ps out security ≡ Ok p
       → Kept o (carried s p) (entry_for (substitute ps places n out security) s p ∷ h)
-  unfolding substitutePlan
+  unfolding substitute_plan
   substitute_kept p places ok e =
       let q = plan_ok _ _ p e in
       subst (λ x. Passes s x places → Kept o (carried s x) (entry_for (substitute ps places n out security) s x ∷ h)) q.1

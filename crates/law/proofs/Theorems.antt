@@ -13,7 +13,7 @@ use Rattle.memory.specs.declared.row.Slip.{Slip}
 use Rattle.memory.specs.Register.{Sound}
 use Rattle.memory.proofs.Sounds.{fault_none}
 use Rattle.panel.specs.declared.party.Party.TheVariants.{Giver}
-use Rattle.panel.specs.Standing.{is_party, lines_of, quantity_of as quantityOfSome}
+use Rattle.panel.specs.Standing.{is_party, lines_of, quantity_of as quantity_of_some}
 use Rattle.panel.proofs.Quantities.{sound_whole}
 use Rattle.sides.specs.declared.refusal.Refusal.{Refusal}
 use Rattle.law.specs.Sums.{only, total}
@@ -128,8 +128,8 @@ every_panel_tells o w h p =
     let sound = (every_past_is_sound o w h p).sound in
     let whole = sound_whole w.book.resources w.book.accounts w.head w.deals w.lines sound in
     record {
-      security = λ a r. omega (arith, given_told o s h k a (λ v. eqb v r), panel_sum (quantityOfSome (Some r)) a s.deals s.lines on, same_sum a (λ l. quantityOfSome (Some r) l) (quantity_of (λ v. eqb v r)) s.deals (λ l. some_only (eqb l.security r) l.quantity) s.lines);
-      in_all = λ a. omega (arith, given_told o s h k a (λ _. true), panel_sum (quantityOfSome None) a s.deals s.lines on, whole.total Giver a);
+      security = λ a r. omega (arith, given_told o s h k a (λ v. eqb v r), panel_sum (quantity_of_some (Some r)) a s.deals s.lines on, same_sum a (λ l. quantity_of_some (Some r) l) (quantity_of (λ v. eqb v r)) s.deals (λ l. some_only (eqb l.security r) l.quantity) s.lines);
+      in_all = λ a. omega (arith, given_told o s h k a (λ _. true), panel_sum (quantity_of_some None) a s.deals s.lines on, whole.total Giver a);
     }
   where
     some_only : (b : Bool) (n : ℕ) → cond b n 0 ≡ only b n

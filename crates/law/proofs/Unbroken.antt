@@ -4,7 +4,7 @@ use Rattle.std.specs.List.{AllByRecursion as Each}
 use Rattle.std.proofs.lemmas.Bool.{both_ways, cases_Bool}
 use Rattle.book.specs.declared.movement.RefusedAt.{RefusedAt}
 use Rattle.book.specs.Lists.{rehearsed}
-use Rattle.book.specs.Refusals.{Condition, first_of}
+use Rattle.book.specs.Refusals.{Condition, first_refusal}
 use Rattle.memory.specs.declared.place.Fault.{Fault}
 use Rattle.memory.specs.declared.place.Table.TheVariants.{Prices}
 use Rattle.memory.specs.Sound.{fault_of, at}
@@ -12,11 +12,11 @@ use Rattle.memory.specs.Sound as memory
 use Rattle.sides.specs.declared.refusal.Refusal.{Refusal}
 use Rattle.sides.specs.declared.refusal.Refusal.TheVariants.{Broken, WrongPhase, NotStanding, OutOfRange, SidesDiffer, OtherDay, NoAccount, ReturnDay, LinesStand, NoSecurities, NoRows, NoNumbers, NoSlips, Book}
 use Rattle.valuation.specs.declared.price.Price.{Price}
-use Rattle.valuation.specs.Prices.{fault_of as priceFaultOf}
+use Rattle.valuation.specs.Prices.{fault_of as price_fault_of}
 use Rattle.law.specs.World.{State, World, state_of}
 use Rattle.law.specs.Slips.{movements_of}
 use Rattle.law.specs.Plans.{Plan, shortages, unfit, or_book, checked}
-use Rattle.law.specs.Calls.{Call, settle, return_line, substitute, amend, open_day_end, mark, close_day_end, lift_day_end, pay, or_plan, in_day_only, plan_of, places_of, prices_of, settleRefusals, settlePlan, returnRefusals, returnPlan, substituteRefusals, substitutePlan, amendRefusals, amendPlan, open_plan, markRefusals, markPlan, close_refusals, close_plan, lift_plan, payRefusals, payPlan}
+use Rattle.law.specs.Calls.{Call, settle, return_line, substitute, amend, open_day_end, mark, close_day_end, lift_day_end, pay, or_plan, in_day_only, plan_of, places_of, prices_of, settle_refusals, settle_plan, return_refusals, return_plan, substitute_refusals, substitute_plan, amend_refusals, amend_plan, open_plan, mark_refusals, mark_plan, close_refusals, close_plan, lift_plan, pay_refusals, pay_plan}
 use Rattle.law.specs.Outcomes.{prices_fault, or_broken, passed, outcome}
 
 abbrev is_broken : Refusal → Bool
@@ -40,7 +40,7 @@ abbrev Whole : {A : Type 0} → Result A Refusal → Type 0
 Whole (Ok a) = Unit {0}
 Whole (Err e) = is_broken e ≡ false
 
-first_whole : (cs : List (Condition Refusal)) → Each (λ c. is_broken c.1 ≡ false) cs → Whole (first_of cs)
+first_whole : (cs : List (Condition Refusal)) → Each (λ c. is_broken c.1 ≡ false) cs → Whole (first_refusal cs)
 first_whole [] a = tt
 first_whole (c ∷ cs) a =
     elim (cases_Bool c.0) [
@@ -53,16 +53,16 @@ plan_whole (Ok u) p k = tt
 plan_whole (Err e) p k = k
 
 planned_whole : (c : Call) (s : State) → Whole (plan_of c s)
-unfolding settlePlan returnPlan substitutePlan amendPlan open_plan markPlan close_plan lift_plan payPlan
-planned_whole (settle ps places t) s = plan_whole _ _ (first_whole (settleRefusals s ps t) (refl, (refl, (refl, (refl, (refl, tt))))))
-planned_whole (return_line places n) s = plan_whole _ _ (first_whole (returnRefusals s n) (refl, (refl, (refl, tt))))
-planned_whole (substitute ps places n out security) s = plan_whole _ _ (first_whole (substituteRefusals s n ps out security) (refl, (refl, (refl, (refl, (refl, tt))))))
-planned_whole (amend n rate due) s = plan_whole _ _ (first_whole (amendRefusals s n rate due) (refl, (refl, (refl, (refl, tt)))))
+unfolding settle_plan return_plan substitute_plan amend_plan open_plan mark_plan close_plan lift_plan pay_plan
+planned_whole (settle ps places t) s = plan_whole _ _ (first_whole (settle_refusals s ps t) (refl, (refl, (refl, (refl, (refl, tt))))))
+planned_whole (return_line places n) s = plan_whole _ _ (first_whole (return_refusals s n) (refl, (refl, (refl, tt))))
+planned_whole (substitute ps places n out security) s = plan_whole _ _ (first_whole (substitute_refusals s n ps out security) (refl, (refl, (refl, (refl, (refl, tt))))))
+planned_whole (amend n rate due) s = plan_whole _ _ (first_whole (amend_refusals s n rate due) (refl, (refl, (refl, (refl, tt)))))
 planned_whole open_day_end s = plan_whole _ _ (first_whole (in_day_only s ∷ []) (refl, tt))
-planned_whole (mark ps places n) s = plan_whole _ _ (first_whole (markRefusals s ps n) (refl, (refl, (refl, tt))))
+planned_whole (mark ps places n) s = plan_whole _ _ (first_whole (mark_refusals s ps n) (refl, (refl, (refl, tt))))
 planned_whole (close_day_end date) s = plan_whole _ _ (first_whole (close_refusals s date) (refl, (refl, tt)))
 planned_whole lift_day_end s = tt
-planned_whole (pay places n) s = plan_whole _ _ (first_whole (payRefusals s n) (refl, (refl, (refl, tt))))
+planned_whole (pay places n) s = plan_whole _ _ (first_whole (pay_refusals s n) (refl, (refl, (refl, tt))))
 
 book_whole : (a : Result (Unit {0}) Refusal) (b : Result (Unit {0}) RefusedAt) → Whole a → Whole (or_book a b)
 book_whole (Err e) b k = k
@@ -84,7 +84,7 @@ passed_whole places s (Ok p) k = go (checked places s p) (checked_whole places s
 pub prices_only : (c : Call) (w : World) → None ≡ fault_of w.book.accounts w.book.resources w.head w.deals w.lines → (f : Fault) → outcome c w ≡ Err (Broken f) → f.table ≡ Prices
 unfolding outcome
 prices_only c w sound f e =
-    go (prices_of c) refl (ap (λ o. or_broken (memory.first_of o (prices_fault w.book.resources (prices_of c))) (passed (places_of c) (state_of w) (plan_of c (state_of w)))) sound ∙ e)
+    go (prices_of c) refl (ap (λ o. or_broken (memory.first_found o (prices_fault w.book.resources (prices_of c))) (passed (places_of c) (state_of w) (plan_of c (state_of w)))) sound ∙ e)
   where
     rest : Result Plan Refusal
     rest = passed (places_of c) (state_of w) (plan_of c (state_of w))
@@ -123,4 +123,4 @@ prices_only c w sound f e =
 
     go : (o : Option (List Price)) → prices_of c ≡ o → or_broken (prices_fault w.book.resources (prices_of c)) rest ≡ Err (Broken f) → f.table ≡ Prices
     go None p q = not_here rest (passed_whole (places_of c) (state_of w) (plan_of c (state_of w)) (planned_whole c (state_of w))) (ap (λ x. or_broken (prices_fault w.book.resources x) rest) (sym p) ∙ q)
-    go (Some ps) p q = by_list (priceFaultOf w.book.resources ps) (ap (λ x. or_broken (prices_fault w.book.resources x) rest) (sym p) ∙ q)
+    go (Some ps) p q = by_list (price_fault_of w.book.resources ps) (ap (λ x. or_broken (prices_fault w.book.resources x) rest) (sym p) ∙ q)

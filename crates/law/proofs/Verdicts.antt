@@ -5,7 +5,7 @@ use Rattle.std.proofs.lemmas.Bool.{both_ways, cases_Bool, or_parts, ltb-false}
 use Rattle.std.specs.List.{AllByRecursion as Each}
 use Rattle.book.specs.declared.movement.RefusedAt.{RefusedAt}
 use Rattle.book.specs.Lists.{rehearsed}
-use Rattle.book.specs.Refusals.{Condition, first_of}
+use Rattle.book.specs.Refusals.{Condition, first_refusal}
 use Rattle.memory.specs.Sound.{most_number}
 use Rattle.sides.specs.declared.refusal.Refusal.{Refusal}
 use Rattle.law.specs.World.{State}
@@ -18,12 +18,12 @@ pub not_ok : {A B : Type 0} {X : Type 0} (e : B) (a : A) → ◌≡◌ {A = Resu
 not_ok e a p = absurd (both_ways false refl (ap is_ok p))
 
 -- where nothing is refused, no condition holds
-pub none_holds : {E : Type 0} (cs : List (Condition E)) → Ok tt ≡ first_of cs → Each (λ c. c.0 ≡ false) cs
+pub none_holds : {E : Type 0} (cs : List (Condition E)) → Ok tt ≡ first_refusal cs → Each (λ c. c.0 ≡ false) cs
 none_holds [] e = tt
 none_holds (c ∷ cs) e =
     elim (cases_Bool c.0) [
-      | inl t ↦ not_ok c.1 tt (sym (e ∙ ap (λ b. cond b (Err c.1) (first_of cs)) t))
-      | inr t ↦ (t, none_holds cs (e ∙ ap (λ b. cond b (Err c.1) (first_of cs)) t))
+      | inl t ↦ not_ok c.1 tt (sym (e ∙ ap (λ b. cond b (Err c.1) (first_refusal cs)) t))
+      | inr t ↦ (t, none_holds cs (e ∙ ap (λ b. cond b (Err c.1) (first_refusal cs)) t))
     ]
 
 pub plan_ok : (r : Result (Unit {0}) Refusal) (p q : Plan) → or_plan r p ≡ Ok q → (Ok tt ≡ r) × (p ≡ q)

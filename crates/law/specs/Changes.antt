@@ -1,7 +1,7 @@
 -- How a call changes the deals.
 use Rattle.std.specs.Prelude.{ℕ, List, [], ◌∷◌, ◌++◌, map}
 use Rattle.memory.specs.declared.row.Deal.{Deal}
-use Rattle.memory.specs.Deals.{less_cash, amended as amendedTo, grown as grownBy}
+use Rattle.memory.specs.Deals.{less_cash, amended as amended_to, grown as grown_by}
 use Rattle.memory.specs.Sound.{number}
 use Rattle.law.specs.Finding.{replaced}
 
@@ -23,8 +23,8 @@ abbrev pub deals_by : Change → List Deal → List Deal
 deals_by none ds = ds
 deals_by (added d) ds = ds ++ (d ∷ [])
 deals_by (lowered n part) ds = replaced number n (λ d. less_cash part d ∷ []) ds
-deals_by (amended n rate due) ds = replaced number n (λ d. amendedTo rate due d ∷ []) ds
-deals_by (grown days) ds = map (grownBy days) ds
+deals_by (amended n rate due) ds = replaced number n (λ d. amended_to rate due d ∷ []) ds
+deals_by (grown days) ds = map (grown_by days) ds
 deals_by (gone n) ds = replaced number n (λ _. []) ds
 
 -- a deal number is issued for a deal that comes

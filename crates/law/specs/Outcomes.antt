@@ -4,11 +4,11 @@ use Rattle.std.specs.Result.{result_map_both}
 use Rattle.memory.specs.declared.place.Fault.{Fault}
 use Rattle.memory.specs.declared.place.Table.TheVariants as table
 use Rattle.memory.specs.declared.row.Slip.{Slip}
-use Rattle.memory.specs.Sound.{fault_of, first_of, at}
+use Rattle.memory.specs.Sound.{fault_of, first_found, at}
 use Rattle.sides.specs.declared.refusal.Refusal.{Refusal}
 use Rattle.sides.specs.declared.refusal.Refusal.TheVariants.{Broken}
 use Rattle.valuation.specs.declared.price.Price.{Price}
-use Rattle.valuation.specs.Prices.{fault_of as priceFaultOf}
+use Rattle.valuation.specs.Prices.{fault_of as price_fault_of}
 use Rattle.law.specs.World.{State, World, state_of, world_of}
 use Rattle.law.specs.Changes.{Change, none, added, lowered, amended, grown, gone}
 use Rattle.law.specs.Plans.{Plan, checked, carried}
@@ -16,12 +16,12 @@ use Rattle.law.specs.Calls.{Call, plan_of, places_of, prices_of}
 
 abbrev pub prices_fault : ℕ → Option (List Price) → Option Fault
 prices_fault resources None = None
-prices_fault resources (Some ps) = at table.Prices (priceFaultOf resources ps)
+prices_fault resources (Some ps) = at table.Prices (price_fault_of resources ps)
 
 -- the first rule that the register, or the price list that is looked at, breaks
 abbrev pub fault_in : Option (List Price) → World → Option Fault
 fault_in prices w =
-    first_of (fault_of w.book.accounts w.book.resources w.head w.deals w.lines) (prices_fault w.book.resources prices)
+    first_found (fault_of w.book.accounts w.book.resources w.head w.deals w.lines) (prices_fault w.book.resources prices)
 
 -- a plan that passes its check
 abbrev pub passed : ℕ → State → Result Plan Refusal → Result Plan Refusal

@@ -2,7 +2,7 @@
 use Rattle.std.specs.Prelude.{ℕ, ◌+◌, Bool, ◌||◌, List, [], ◌∷◌, length, Ok, Err, Result, nat_lt}
 use Rattle.book.specs.declared.movement.RefusedAt.{RefusedAt}
 use Rattle.book.specs.Lists.{run, rehearsed}
-use Rattle.book.specs.Refusals.{Condition, first_of}
+use Rattle.book.specs.Refusals.{Condition, first_refusal}
 use Rattle.memory.specs.declared.row.Deal.{Deal}
 use Rattle.memory.specs.declared.row.Line.{Line}
 use Rattle.memory.specs.declared.row.Phase.{Phase}
@@ -52,7 +52,7 @@ module _ (s : State) (p : Plan) where
       ∷ []))
 
   unfoldable pub unfit : ℕ → Result (Unit {0}) Refusal
-  unfit places = first_of (shortages places)
+  unfit places = first_refusal (shortages places)
 
   -- all of the slips are moved, the lines follow them, and cash is shared out
   unfoldable pub carried : State

@@ -5,13 +5,13 @@ use Rattle.memory.specs.declared.row.Deal.{Deal}
 use Rattle.memory.specs.declared.row.Line.{Line}
 use Rattle.memory.specs.Deals.{target_of}
 use Rattle.valuation.specs.declared.price.Price.{Price}
-use Rattle.law.specs.Calls.{unitsWorth, worthOnLine}
+use Rattle.law.specs.Calls.{units_worth, worth_on_line}
 
 -- a line can send back no unit more: the taker has none free, or the deal, which is worth so much, would fall below its target
 abbrev pub CannotSpare : List Price → Deal → Meaning → ℕ → Line → Type 0
 CannotSpare ps d m value l =
-    (free m d.taker l.security ≡ 0) ⊎ (value + unitsWorth ps d l.security (l.quantity - 1) < target_of d + worthOnLine ps d l)
+    (free m d.taker l.security ≡ 0) ⊎ (value + units_worth ps d l.security (l.quantity - 1) < target_of d + worth_on_line ps d l)
 
 -- so it is with each line of the deal that is worth something
 abbrev pub Spent : List Price → Deal → Meaning → ℕ → Line → Type 0
-Spent ps d m value l = l.deal ≡ d.number → 0 < worthOnLine ps d l → CannotSpare ps d m value l
+Spent ps d m value l = l.deal ≡ d.number → 0 < worth_on_line ps d l → CannotSpare ps d m value l

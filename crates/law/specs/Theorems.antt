@@ -14,14 +14,14 @@ use Rattle.panel.specs.Standing.{given, given_in_all}
 use Rattle.sharing.specs.Limits.{most_daily}
 use Rattle.sides.specs.declared.refusal.Refusal.TheVariants.{Broken}
 use Rattle.sides.specs.declared.terms.Terms.{Terms}
-use Rattle.tables.specs.Values.{heldWorths}
+use Rattle.tables.specs.Values.{held_worths}
 use Rattle.valuation.specs.declared.price.Price.{Price}
 use Rattle.valuation.specs.Most.{most_units}
 use Rattle.law.specs.Sums.{only, total}
 use Rattle.law.specs.World.{State, World, state_of}
 use Rattle.law.specs.Slips.{back_slip, out_slip}
 use Rattle.law.specs.Plans.{Plan}
-use Rattle.law.specs.Calls.{Call, settle, substitute, mark, worthOn, quantityWorth, order_for, deal_for, theLine, itsDeal, marked, markValue}
+use Rattle.law.specs.Calls.{Call, settle, substitute, mark, worth_on, quantity_worth, order_for, deal_for, the_line, its_deal, marked, mark_value}
 use Rattle.law.specs.Outcomes.{outcome, after}
 use Rattle.law.specs.Past.{Opening, Entry, Past, slipped, is_out, is_back, pair_of}
 use Rattle.law.specs.Agree.{Agree}
@@ -79,17 +79,17 @@ EveryPastIsBounded = (o : Opening) (w : World) (h : List Entry) → Past o w h �
 abbrev pub SettleCovers : Type 0
 SettleCovers =
     (o : Opening) (w : World) (h : List Entry) → Past o w h → (ps : List Price) (places : ℕ) (t : Terms) (p : Plan) → outcome (settle ps places t) w ≡ Ok p
-    → target_of (deal_for w.head.next.deal t) ≤ worthOn ps (deal_for w.head.next.deal t) (state_of (after (settle ps places t) w)).lines
+    → target_of (deal_for w.head.next.deal t) ≤ worth_on ps (deal_for w.head.next.deal t) (state_of (after (settle ps places t) w)).lines
 
 -- by the deal, what it was worth, and the state after
 pub record Marks (ps : List Price) (n : ℕ) (s : State) (p : Plan) (t : State) : Type 0 where
-  pub covered : p.alert ≡ false → target_of (marked s n) ≤ worthOn ps (marked s n) t.lines
+  pub covered : p.alert ≡ false → target_of (marked s n) ≤ worth_on ps (marked s n) t.lines
   -- under alert B nothing moves, and no basket by the rule covers the difference
   pub unmoved : p.alert ≡ true → p.slips ≡ []
   pub uncovered : p.alert ≡ true
-      → Fails s.book (worth_by (marked s n).weighing) ps (order_for (marked s n) (target_of (marked s n) - markValue s ps n)) (heldWorths (worth_by (marked s n).weighing) (marked s n).currency ps n s.lines)
+      → Fails s.book (worth_by (marked s n).weighing) ps (order_for (marked s n) (target_of (marked s n) - mark_value s ps n)) (held_worths (worth_by (marked s n).weighing) (marked s n).currency ps n s.lines)
   -- above the target, no line worth something can send back one unit more
-  pub spent : target_of (marked s n) < markValue s ps n → Each (Spent ps (marked s n) t.book (worthOn ps (marked s n) t.lines)) t.lines
+  pub spent : target_of (marked s n) < mark_value s ps n → Each (Spent ps (marked s n) t.book (worth_on ps (marked s n) t.lines)) t.lines
 
 abbrev pub MarkCovers : Type 0
 MarkCovers =
@@ -99,8 +99,8 @@ MarkCovers =
 -- the quantity that comes in is worth at least the one that goes out
 pub record Replaces (ps : List Price) (s : State) (n out security : ℕ) (p : Plan) : Type 0 where
   pub quantity : ℕ
-  pub slips : p.slips ≡ back_slip Substitute (itsDeal s n) n (theLine s n).security out ∷ (out_slip Substitute (itsDeal s n) s.next_line security quantity ∷ [])
-  pub enough : quantityWorth ps (itsDeal s n) (theLine s n).security out ≤ quantityWorth ps (itsDeal s n) security quantity
+  pub slips : p.slips ≡ back_slip Substitute (its_deal s n) n (the_line s n).security out ∷ (out_slip Substitute (its_deal s n) s.next_line security quantity ∷ [])
+  pub enough : quantity_worth ps (its_deal s n) (the_line s n).security out ≤ quantity_worth ps (its_deal s n) security quantity
 
 abbrev pub SubstituteCovers : Type 0
 SubstituteCovers =

@@ -43,8 +43,8 @@ module _ (accounts : ℕ) (h : Head) where
     abbrev pub fit : List Deal
     fit = take (passing number (deal_fits accounts h) 0 xs) xs
 
-    abbrev pub fitKeys : List ℕ
-    fitKeys = keys_of h.next.deal fit
+    abbrev pub fit_keys : List ℕ
+    fit_keys = keys_of h.next.deal fit
 
     fit_few : length fit ≡ passing number (deal_fits accounts h) 0 xs
     fit_few = let le = passing_le number (deal_fits accounts h) 0 xs in length-take (passing number (deal_fits accounts h) 0 xs) xs ∙ (omega arith)
@@ -61,44 +61,44 @@ module _ (accounts : ℕ) (h : Head) where
       pub fit_short : length fit ≤ 64
       fit_short = omega (arith, fit_few, passing_le number (deal_fits accounts h) 0 xs)
 
-      pub keys_rise : Rising fitKeys
+      pub keys_rise : Rising fit_keys
       keys_rise =
           rising_keys h.next.deal fit fit_short (passing_rising number (deal_fits accounts h) fits_above xs no_deal)
           (λ k l. let e = fit_each k l in omega (arith, get_or-map number fit k no_deal 0 l, fits_below e.0 (get_or fit k no_deal) e.1))
 
       module _ (ls : List Line) where
-        sum_is : (k : ℕ) → k < length fit → eqb (get_or fit k no_deal).cash (get_or (with_parts fitKeys (replicate 64 0) ls) k 0) ≡ balanced ls (get_or fit k no_deal)
+        sum_is : (k : ℕ) → k < length fit → eqb (get_or fit k no_deal).cash (get_or (with_parts fit_keys (replicate 64 0) ls) k 0) ≡ balanced ls (get_or fit k no_deal)
         sum_is k l =
             let d = get_or fit k no_deal in
             let e = fit_each k l in
             let low = fits_cash e.0 d e.1 in
             let k64 : k < 64 = omega (arith, fit_short) in
-            let key : get_or fitKeys k 0 ≡ d.number = key_of h.next.deal fit k l k64 ∙ get_or-map number fit k no_deal 0 l in
+            let key : get_or fit_keys k 0 ≡ d.number = key_of h.next.deal fit k l k64 ∙ get_or-map number fit k no_deal 0 l in
             let long = length_keys h.next.deal fit in
             let start : get_or (replicate 64 0) k 0 ≡ capped 0 = get_or-replicate 64 k 0 0 k64 in
-            let is = with_parts_at fitKeys (replicate 64 0) ls k 0 (omega arith) k64 start in
+            let is = with_parts_at fit_keys (replicate 64 0) ls k 0 (omega arith) k64 start in
             let parts = parts_on d.number ls in
-            let sum : get_or (with_parts fitKeys (replicate 64 0) ls) k 0 ≡ capped (0 + parts) = is ∙ ap (λ n. capped (0 + parts_on n ls)) key in
+            let sum : get_or (with_parts fit_keys (replicate 64 0) ls) k 0 ≡ capped (0 + parts) = is ∙ ap (λ n. capped (0 + parts_on n ls)) key in
             ap (eqb d.cash) sum ∙ same d.cash parts low
           where
             same : (c s : ℕ) → c ≤ most_cash → eqb c (capped (0 + s)) ≡ eqb c s
             same c s low = grind (arith, nat_tests)
 
-        pub uneven_fit : uneven 0 fit (with_parts fitKeys (replicate 64 0) ls) ≡ first_set (balanced ls) 0 fit
+        pub uneven_fit : uneven 0 fit (with_parts fit_keys (replicate 64 0) ls) ≡ first_set (balanced ls) 0 fit
         uneven_fit =
-            let long = length_with_parts fitKeys (replicate 64 0) ls ∙ length-replicate {A = ℕ} 64 0 in
+            let long = length_with_parts fit_keys (replicate 64 0) ls ∙ length-replicate {A = ℕ} 64 0 in
             uneven_is (balanced ls) 0 fit _ (omega (arith, fit_short)) sum_is
 
-        pub deals_broken : option_or (uneven 0 fit (with_parts fitKeys (replicate 64 0) ls)) (first_broken number (deal_fits accounts h) 0 0 xs) ≡ first_broken number (deal_sound accounts h ls) 0 0 xs
+        pub deals_broken : option_or (uneven 0 fit (with_parts fit_keys (replicate 64 0) ls)) (first_broken number (deal_fits accounts h) 0 0 xs) ≡ first_broken number (deal_sound accounts h ls) 0 0 xs
         deals_broken =
             ap (λ (o : Option ℕ). option_or o (first_broken number (deal_fits accounts h) 0 0 xs)) uneven_fit
             ∙ sym (both_broken number (deal_fits accounts h) (balanced ls) 0 0 xs)
 
-        pub deals_loose : None ≡ first_broken number (deal_fits accounts h) 0 0 xs → first_set (names fitKeys (length fit)) 0 ls ≡ first_loose xs ls
+        pub deals_loose : None ≡ first_broken number (deal_fits accounts h) 0 0 xs → first_set (names fit_keys (length fit)) 0 ls ≡ first_loose xs ls
         unfolding first_loose
         deals_loose e =
             let whole : fit ≡ xs = take_all (passing number (deal_fits accounts h) 0 xs) xs (omega (arith, passing_all number (deal_fits accounts h) xs e)) in
-            let each : (l : Line) → names fitKeys (length fit) l ≡ on_deal xs l = λ l.
+            let each : (l : Line) → names fit_keys (length fit) l ≡ on_deal xs l = λ l.
             ap (λ (ns : List ℕ). is_some (place_of l.deal ns)) (take_keys h.next.deal fit fit_short)
             ∙ sym (stands_is l.deal fit)
             ∙ ap (stands l.deal) whole in
@@ -116,7 +116,7 @@ module _ (accounts : ℕ) (h : Head) where
         front_is : front ≡ fit
         front_is = cut ∙ ap (λ n. take n xs) count_is
 
-        keys_are : keys ≡ fitKeys
+        keys_are : keys ≡ fit_keys
         keys_are = made ∙ ap (keys_of h.next.deal) front_is
 
         pub keys_rising : Rising keys

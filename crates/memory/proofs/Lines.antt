@@ -7,7 +7,7 @@ use Rattle.memory.specs.declared.row.Deal.{Deal}
 use Rattle.memory.specs.declared.row.Head.{Head}
 use Rattle.memory.specs.declared.row.Line.{Line}
 use Rattle.memory.specs.Checks.{on_deal, first_loose, earlier, lines_judged}
-use Rattle.memory.specs.Sound.{return_number, line_fits, line_sound, first_broken, first_set, zero_line, used_deals, used_lines, deals_fault, lines_fault, head_sound, at, first_of, fault_of}
+use Rattle.memory.specs.Sound.{return_number, line_fits, line_sound, first_broken, first_set, zero_line, used_deals, used_lines, deals_fault, lines_fault, head_sound, at, first_found, fault_of}
 use Rattle.memory.proofs.Firsts.{earlier_broken}
 
 module _ (resources : ℕ) (h : Head) (deals : List Deal) (lines : List Line) where
@@ -23,5 +23,5 @@ module _ (resources : ℕ) (h : Head) (deals : List Deal) (lines : List Line) wh
   -- where head and deals are sound, the fault is that of the lines
   pub fault_of_lines : (accounts : ℕ) (loose o : Option ℕ) → true ≡ head_sound h (length deals) (length lines) → None ≡ deals_fault accounts h deals lines → loose ≡ first_loose (used_deals h deals) (used_lines h lines) → o ≡ lines_judged resources h loose lines → at table.Lines o ≡ fault_of accounts resources h deals lines
   fault_of_lines accounts loose o sound none free is =
-      (λ i. first_of (at table.Deals (none i)) (at table.Lines ((is ∙ lines_judged_lem loose free) i)))
+      (λ i. first_found (at table.Deals (none i)) (at table.Lines ((is ∙ lines_judged_lem loose free) i)))
       ∙ sym (cond-true (head_sound h (length deals) (length lines)) _ _ (sym sound))

@@ -20,7 +20,7 @@ use Rattle.memory.specs.Kinds.{weighing_number, base_of}
 use Rattle.memory.specs.Places.{Rising, deal_numbers, line_numbers}
 use Rattle.memory.specs.Register.{MarginHolds, SoundDeal, Stands, SoundLine, Sound, Told}
 use Rattle.memory.specs.Rows.{no_deal, no_line}
-use Rattle.memory.specs.Sound.{most_number, margin_fits, parties_fit, terms_fit, interest_fits, numbered, parts_on, deal_fits, deal_sound, stands, ranges_fit, line_fits, line_sound, zero_terms, zero_cash, zero_deal, zero_line, used_deals, used_lines, number, return_number, deals_fault, lines_fault, head_sound, at, first_of, fault_of}
+use Rattle.memory.specs.Sound.{most_number, margin_fits, parties_fit, terms_fit, interest_fits, numbered, parts_on, deal_fits, deal_sound, stands, ranges_fit, line_fits, line_sound, zero_terms, zero_cash, zero_deal, zero_line, used_deals, used_lines, number, return_number, deals_fault, lines_fault, head_sound, at, first_found, fault_of}
 use Rattle.memory.proofs.Filled.{not_some, none_if, filled_from, filled_none, filled_at}
 
 -- ── a deal ──
@@ -186,7 +186,7 @@ zero_line_lem l e =
 
 -- ── the register ──
 
-none_at : (t : Table) (o : Option ℕ) (f : Option Fault) → None ≡ first_of (at t o) f → (None ≡ o) × (None ≡ f)
+none_at : (t : Table) (o : Option ℕ) (f : Option Fault) → None ≡ first_found (at t o) f → (None ≡ o) × (None ≡ f)
 none_at t None f e = (refl, e)
 none_at t (Some i) f e = not_some _ e
 
@@ -223,7 +223,7 @@ module _ (accounts resources : ℕ) (h : Head) (deals : List Deal) (lines : List
       let head : head_sound h (length deals) (length lines) ≡ true = grind (arith, nat_tests) in
       let ds = filled_none number (deal_sound accounts h (used_lines h lines)) (SoundDeal accounts h (used_lines h lines)) zero_deal no_deal (deal_back accounts h (used_lines h lines)) (λ x p. omega (arith, p.number_some)) refl 64 h.used.deals deals s.deal_table in
       let ls = filled_none return_number (line_sound resources h (used_deals h deals)) (SoundLine resources h (used_deals h deals)) zero_line no_line (line_back resources h (used_deals h deals)) (λ x p. omega (arith, p.number_some)) refl 1024 h.used.lines lines s.line_table in
-      (λ i. first_of (at table.Deals (ds i)) (at table.Lines (ls i))) ∙ sym (cond-true (head_sound h (length deals) (length lines)) _ _ head)
+      (λ i. first_found (at table.Deals (ds i)) (at table.Lines (ls i))) ∙ sym (cond-true (head_sound h (length deals) (length lines)) _ _ head)
 
   pub fault_told : (o : Option Fault) → o ≡ fault_of accounts resources h deals lines → Told o accounts resources h deals lines
   fault_told None e = sound_from e

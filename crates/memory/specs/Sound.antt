@@ -146,13 +146,13 @@ abbrev pub at : Table → Option ℕ → Option Fault
 at t (Some i) = Some (record { table = t; row = i })
 at t None = None
 
-abbrev pub first_of : Option Fault → Option Fault → Option Fault
-first_of (Some f) o = Some f
-first_of None o = o
+abbrev pub first_found : Option Fault → Option Fault → Option Fault
+first_found (Some f) o = Some f
+first_found None o = o
 
 -- the first rule that is broken, by its table and row
 abbrev pub fault_of : ℕ → ℕ → Head → List Deal → List Line → Option Fault
 fault_of accounts resources h deals lines =
     cond (head_sound h (length deals) (length lines))
-    (first_of (at table.Deals (deals_fault accounts h deals lines)) (at table.Lines (lines_fault resources h deals lines)))
+    (first_found (at table.Deals (deals_fault accounts h deals lines)) (at table.Lines (lines_fault resources h deals lines)))
     (Some (record { table = table.Head; row = 0 }))

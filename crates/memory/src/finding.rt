@@ -1,6 +1,6 @@
 //! Rows that are found by their numbers, by halves.
 ghost use Rattle.std.specs.Prelude.{◌≡◌, ℕ, ◌<◌, map, length, take, IfSome, slice_index};
-ghost use Rattle.memory.specs.Sound.{number as dealNumber, return_number};
+ghost use Rattle.memory.specs.Sound.{number as deal_number, return_number};
 ghost use Rattle.memory.specs.Places.{Rising, place_of, FoundAt, Sought, deal_numbers, line_numbers};
 
 use crate::row::{Deal, Head, Line};
@@ -22,7 +22,7 @@ impl Keyed for u64 {
 }
 
 impl Keyed for Deal {
-    ghost key = { dealNumber };
+    ghost key = { deal_number };
 
     fn key(&self) -> u64 {
         self.number as u64
@@ -94,7 +94,7 @@ fn find_used<K: Keyed>(rows: &[K], used: u32, number: u32) -> Option<usize>
 
 /// The place of a deal's row among the used rows.
 pub fn find_deal(head: &Head, deals: &[Deal], number: u32) -> Option<usize>
-    ensures found { IfSome result (FoundAt dealNumber deals.now head.now.used.deals number) }
+    ensures found { IfSome result (FoundAt deal_number deals.now head.now.used.deals number) }
     ensures place { Rising (deal_numbers head.now deals.now) → result ≡ place_of number (deal_numbers head.now deals.now) }
 {
     find_used(deals, head.used.deals, number)

@@ -42,18 +42,18 @@ unless_refused None x old = x
 
 module _ (m : Meaning) (h : Head) (deals : List Deal) (lines : List Line) (account : ℕ) where
   -- what stands of a security for the account
-  abbrev pub positionIn : ℕ → Result Position PanelRefusal
-  positionIn s =
+  abbrev pub position_in : ℕ → Result Position PanelRefusal
+  position_in s =
       answer (refusal_of m h deals lines (has_account m account && has_security m s))
       (record { given = standing Giver account s h deals lines; taken = standing Taker account s h deals lines })
 
   -- what of all securities is still to come back to it
-  abbrev pub owedTo : Result ℕ PanelRefusal
-  owedTo = answer (refusal_of m h deals lines (has_account m account)) (standing_in_all Giver account m.resources h deals lines)
+  abbrev pub owed_to : Result ℕ PanelRefusal
+  owed_to = answer (refusal_of m h deals lines (has_account m account)) (standing_in_all Giver account m.resources h deals lines)
 
   -- how many returns are open, and the list of them
-  abbrev pub openCount : Result ℕ PanelRefusal
-  openCount = answer (refusal_of m h deals lines (has_account m account)) (length (open_returns account h deals lines))
+  abbrev pub open_count : Result ℕ PanelRefusal
+  open_count = answer (refusal_of m h deals lines (has_account m account)) (length (open_returns account h deals lines))
 
-  abbrev pub openListed : List Line → List Line
-  openListed places = unless_refused (refusal_of m h deals lines (has_account m account)) (listed (open_returns account h deals lines) places) places
+  abbrev pub open_listed : List Line → List Line
+  open_listed places = unless_refused (refusal_of m h deals lines (has_account m account)) (listed (open_returns account h deals lines) places) places

@@ -1,7 +1,7 @@
 //! What the front panel answers.
 ghost use Rattle.std.specs.Prelude.{◌≡◌, IfNone};
 ghost use Rattle.memory.specs.Register.{Told};
-ghost use Rattle.panel.specs.Asking.{refusal_of, positionIn, owedTo, openCount, openListed};
+ghost use Rattle.panel.specs.Asking.{refusal_of, position_in, owed_to, open_count, open_listed};
 ghost use Rattle.panel.specs.Standing.{Orderly, Whole};
 
 use crate::listing::list_lines;
@@ -71,7 +71,7 @@ pub fn position_of<B: Book>(
     account: u32,
     security: u32,
 ) -> Result<Position, PanelRefusal>
-    ensures { result ≡ positionIn (B.Book.meaning book.now) head.now deals.now lines.now account security }
+    ensures { result ≡ position_in (B.Book.meaning book.now) head.now deals.now lines.now account security }
 {
     let inside = account < book.accounts() && security >= 3 && security < book.resources();
     if let Some(refusal) = refusal(book, head, deals, lines, inside) {
@@ -92,7 +92,7 @@ pub fn still_to_come_back<B: Book>(
     lines: &[Line],
     account: u32,
 ) -> Result<u64, PanelRefusal>
-    ensures { result ≡ owedTo (B.Book.meaning book.now) head.now deals.now lines.now account }
+    ensures { result ≡ owed_to (B.Book.meaning book.now) head.now deals.now lines.now account }
 {
     if let Some(refusal) = refusal(book, head, deals, lines, account < book.accounts()) {
         return Err(refusal);
@@ -111,8 +111,8 @@ pub fn open_returns<B: Book>(
     account: u32,
     places: &mut [Line],
 ) -> Result<usize, PanelRefusal>
-    ensures answer { result ≡ openCount (B.Book.meaning book.now) head.now deals.now lines.now account }
-    ensures places { places.new ≡ openListed (B.Book.meaning book.now) head.now deals.now lines.now account places.old }
+    ensures answer { result ≡ open_count (B.Book.meaning book.now) head.now deals.now lines.now account }
+    ensures places { places.new ≡ open_listed (B.Book.meaning book.now) head.now deals.now lines.now account places.old }
 {
     if let Some(refusal) = refusal(book, head, deals, lines, account < book.accounts()) {
         return Err(refusal);

@@ -1,7 +1,7 @@
 -- Opening, closing and lifting the day end.
 use Rattle.std.specs.Prelude.{ℕ, ◌+◌, Bool, true, false, cond, not, ◌&&◌, [], ◌∷◌, is_ok, Result, nat_le}
 use Rattle.std.specs.Result.{result_map_both}
-use Rattle.book.specs.Refusals.{first_of}
+use Rattle.book.specs.Refusals.{first_refusal}
 use Rattle.memory.specs.declared.row.Head.{Head}
 use Rattle.memory.specs.declared.row.Phase.{Phase}
 use Rattle.memory.specs.declared.row.Phase.TheVariants.{Day, DayEnd}
@@ -25,7 +25,7 @@ on_date d h = record { date = d; phase = h.phase; next = h.next; used = h.used }
 -- ── open ──
 
 abbrev pub open_verdict : Head → Result (Unit {0}) Refusal
-open_verdict h = first_of ((not (in_day h.phase), refusal.WrongPhase) ∷ [])
+open_verdict h = first_refusal ((not (in_day h.phase), refusal.WrongPhase) ∷ [])
 
 -- a sheet that is not given in yet
 abbrev pub owed : DaySheet
@@ -45,7 +45,7 @@ date_fits date new = nat_le (date + 1) new && nat_le new (date + most_days)
 
 abbrev pub close_verdict : Head → ℕ → Result (Unit {0}) Refusal
 close_verdict h date =
-    first_of ((in_day h.phase, refusal.WrongPhase) ∷ ((not (date_fits h.date date), refusal.OutOfRange) ∷ []))
+    first_refusal ((in_day h.phase, refusal.WrongPhase) ∷ ((not (date_fits h.date date), refusal.OutOfRange) ∷ []))
 
 -- a refusal hands the sheet back
 abbrev pub closing : Head → ℕ → DaySheet → Result (Unit {0}) NotClosed

@@ -11,7 +11,7 @@ use Rattle.valuation.specs.Most.{most_price, most_units, most_worth}
 use Rattle.memory.specs.declared.row.Line.{Line}
 use Rattle.memory.specs.Rows.{no_line}
 use Rattle.tables.specs.Held.{is_security, with_held}
-use Rattle.tables.specs.Values.{lineWorth, heldWorth, heldWorths, on_deal}
+use Rattle.tables.specs.Values.{line_worth, held_worth, held_worths, on_deal}
 use Rattle.tables.proofs.Worths.{worth_on_most}
 
 get_d_zeros : (n k : ℕ) → ◌≡◌ {A = ℕ} (get_or (replicate n 0) k 0) 0
@@ -44,13 +44,13 @@ added_at own s w sums k h all =
 module _ (worth : ℕ → ℕ → ℕ → ℕ) (currency : Currency) (ps : List Price) (n : ℕ) where
   -- ── one line more ──
 
-  held_more : (s : ℕ) (ls : List Line) (i : ℕ) → i < length ls → heldWorth worth currency ps n s (drop i ls) ≡ cond (on_deal n (get_or ls i no_line) && eqb (get_or ls i no_line).security s) (lineWorth worth currency ps (get_or ls i no_line)) 0 + heldWorth worth currency ps n s (drop (i + 1) ls)
-  unfolding heldWorth
-  held_more s ls i h = at_drop_more (heldWorth worth currency ps n s) ls i no_line h
+  held_more : (s : ℕ) (ls : List Line) (i : ℕ) → i < length ls → held_worth worth currency ps n s (drop i ls) ≡ cond (on_deal n (get_or ls i no_line) && eqb (get_or ls i no_line).security s) (line_worth worth currency ps (get_or ls i no_line)) 0 + held_worth worth currency ps n s (drop (i + 1) ls)
+  unfolding held_worth
+  held_more s ls i h = at_drop_more (held_worth worth currency ps n s) ls i no_line h
 
-  held_all : (s : ℕ) (ls : List Line) (i : ℕ) → length ls ≤ i → heldWorth worth currency ps n s (drop i ls) ≡ 0
-  unfolding heldWorth
-  held_all s ls i h = at_drop_all (heldWorth worth currency ps n s) ls i h
+  held_all : (s : ℕ) (ls : List Line) (i : ℕ) → length ls ≤ i → held_worth worth currency ps n s (drop i ls) ≡ 0
+  unfolding held_worth
+  held_all s ls i h = at_drop_all (held_worth worth currency ps n s) ls i h
 
   length_with_held : (l : Line) (sums : List ℕ) → length (with_held worth currency ps n l sums) ≡ length sums
   length_with_held l sums =
@@ -62,7 +62,7 @@ module _ (worth : ℕ → ℕ → ℕ → ℕ) (currency : Currency) (ps : List 
   -- sums of the first i lines, by what is left of each
   pub record Counted (ls : List Line) (i : ℕ) (sums : List ℕ) : Type 0 where
     pub long : length sums ≡ 125
-    pub each : (k : ℕ) → k < 125 → get_or sums k 0 + heldWorth worth currency ps n (3 + k) (drop i ls) ≡ heldWorth worth currency ps n (3 + k) ls
+    pub each : (k : ℕ) → k < 125 → get_or sums k 0 + held_worth worth currency ps n (3 + k) (drop i ls) ≡ held_worth worth currency ps n (3 + k) ls
     pub few : (k : ℕ) → k < 125 → get_or sums k 0 ≤ most_worth * i
 
   pub counted_none : (ls : List Line) → Counted ls 0 (replicate 125 0)
@@ -72,26 +72,26 @@ module _ (worth : ℕ → ℕ → ℕ → ℕ) (currency : Currency) (ps : List 
       (ls : List Line) (i : ℕ) (sums after : List ℕ) → i < length ls → after ≡ with_held worth currency ps n (get_or ls i no_line) sums → Counted ls i sums → Counted ls (i + 1) after
   counted_more more most ls i sums after h is c =
       let l = get_or ls i no_line in
-      let at : (k : ℕ) → k < 125 → get_or after k 0 ≡ get_or sums k 0 + cond (on_deal n l && eqb l.security (3 + k)) (lineWorth worth currency ps l) 0 =
-      λ k g. ap (λ xs. get_or xs k 0) is ∙ added_at (on_deal n l) l.security (lineWorth worth currency ps l) sums k (omega (arith, c.long)) c.long in
+      let at : (k : ℕ) → k < 125 → get_or after k 0 ≡ get_or sums k 0 + cond (on_deal n l && eqb l.security (3 + k)) (line_worth worth currency ps l) 0 =
+      λ k g. ap (λ xs. get_or xs k 0) is ∙ added_at (on_deal n l) l.security (line_worth worth currency ps l) sums k (omega (arith, c.long)) c.long in
       record {
         long = ap length is ∙ length_with_held l sums ∙ c.long;
         each = λ k g. omega (arith, at k g, c.each k g, held_more (3 + k) ls i h);
         few = λ k g. omega (arith, at k g, c.few k g, worth_on_most worth currency ps more most (on_deal n l && eqb l.security (3 + k)) l);
       }
 
-  pub counted_all : (ls : List Line) (i : ℕ) (sums : List ℕ) → length ls ≤ i → Counted ls i sums → sums ≡ heldWorths worth currency ps n ls
-  unfolding heldWorths
-  counted_all ls i sums h c = fill_by_all (λ k. heldWorth worth currency ps n (3 + k) ls) sums 125 0 c.long (λ k g. omega (arith, c.each k g, held_all (3 + k) ls i h))
+  pub counted_all : (ls : List Line) (i : ℕ) (sums : List ℕ) → length ls ≤ i → Counted ls i sums → sums ≡ held_worths worth currency ps n ls
+  unfolding held_worths
+  counted_all ls i sums h c = fill_by_all (λ k. held_worth worth currency ps n (3 + k) ls) sums 125 0 c.long (λ k g. omega (arith, c.each k g, held_all (3 + k) ls i h))
 
   -- ── what the sums say of a security ──
 
-  pub length_held : (ls : List Line) → length (heldWorths worth currency ps n ls) ≡ 125
-  unfolding heldWorths
-  length_held ls = length-map-range_with_len (λ k. heldWorth worth currency ps n (3 + k) ls) 0 125
+  pub length_held : (ls : List Line) → length (held_worths worth currency ps n ls) ≡ 125
+  unfolding held_worths
+  length_held ls = length-map-range_with_len (λ k. held_worth worth currency ps n (3 + k) ls) 0 125
 
-  pub held_in_lem : (ls : List Line) (s : ℕ) → 3 ≤ s → s < 128 → held_in (heldWorths worth currency ps n ls) s ≡ heldWorth worth currency ps n s ls
-  unfolding heldWorths
+  pub held_in_lem : (ls : List Line) (s : ℕ) → 3 ≤ s → s < 128 → held_in (held_worths worth currency ps n ls) s ≡ held_worth worth currency ps n s ls
+  unfolding held_worths
   held_in_lem ls s low high =
       let same : 3 + (s - 3) ≡ s = omega arith in
-      get_or-map-range_with_len (λ k. heldWorth worth currency ps n (3 + k) ls) 0 125 (s - 3) (s - 3) 0 (omega arith) (omega arith) ∙ ap (λ t. heldWorth worth currency ps n t ls) same
+      get_or-map-range_with_len (λ k. held_worth worth currency ps n (3 + k) ls) 0 125 (s - 3) (s - 3) 0 (omega arith) (omega arith) ∙ ap (λ t. held_worth worth currency ps n t ls) same

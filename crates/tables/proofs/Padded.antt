@@ -9,7 +9,7 @@ use Rattle.memory.specs.Rows.{no_line, padded}
 use Rattle.memory.specs.Sound.{return_number}
 use Rattle.memory.proofs.Filled.{take_padded, drop_padded, get_d_padded}
 use Rattle.tables.specs.Rows.{removed, without, less_quantity, empties, lowered_at, lowered_in}
-use Rattle.tables.specs.Values.{lineWorth, on_deal, with_part, shared_out, shared_in}
+use Rattle.tables.specs.Values.{line_worth, on_deal, with_part, shared_out, shared_in}
 
 -- of one of two
 of_either : {X Y : Type 0} (f : X → Y) (b : Bool) (x y : X) → cond b (f x) (f y) ≡ f (cond b x y)
@@ -45,7 +45,7 @@ module _ {X : Type 0} (z : X) (n : ℕ) (us : List X) where
 
 module _ (worth : ℕ → ℕ → ℕ → ℕ) (currency : Currency) (ps : List Price) (m cash : ℕ) (us : List Line) where
   pub shared_numbers : map return_number (shared_out worth currency ps m cash us) ≡ map return_number us
-  shared_numbers = shared_keeps (on_deal m) (lineWorth worth currency ps) with_part cash us return_number (λ l p. refl)
+  shared_numbers = shared_keeps (on_deal m) (line_worth worth currency ps) with_part cash us return_number (λ l p. refl)
 
   pub length_shared : length (shared_out worth currency ps m cash us) ≡ length us
   length_shared = sym (length-map (shared_out worth currency ps m cash us) return_number) ∙ ap length shared_numbers ∙ length-map us return_number

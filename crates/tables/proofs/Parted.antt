@@ -16,7 +16,7 @@ use Rattle.valuation.specs.declared.currency.Currency.{Currency}
 use Rattle.valuation.specs.declared.price.Price.{Price}
 use Rattle.tables.specs.declared.sharing_out.Walk.{Walk}
 use Rattle.tables.specs.Rows.{fits}
-use Rattle.tables.specs.Values.{lineWorth, dealWorth, on_deal, with_part, shared_out, shared_in}
+use Rattle.tables.specs.Values.{line_worth, deal_worth, on_deal, with_part, shared_out, shared_in}
 use Rattle.tables.specs.Walks.{Reached, walked}
 use Rattle.tables.proofs.Worths.{deal_total}
 
@@ -38,22 +38,22 @@ module _ (worth : ℕ → ℕ → ℕ → ℕ) (currency : Currency) (ps : List 
       → Reached worth currency ps n total ls (i + 1) w × (walked worth currency ps n cash total w.before (i + 1) ls ≡ walked worth currency ps n cash total w.before i ls)
   part_other other cash =
       let e = ne_eqb (get_or ls i no_line).deal n other in
-      let on = walk_other (on_deal n) (lineWorth worth currency ps) total ls i no_line within w.before w.left r.rest r.count e in
-      (record { rest = on.0; count = on.1 }, shared_other (on_deal n) (lineWorth worth currency ps) with_part cash total ls i no_line within w.before e)
+      let on = walk_other (on_deal n) (line_worth worth currency ps) total ls i no_line within w.before w.left r.rest r.count e in
+      (record { rest = on.0; count = on.1 }, shared_other (on_deal n) (line_worth worth currency ps) with_part cash total ls i no_line within w.before e)
 
   module _ (own : (get_or ls i no_line).deal ≡ n) where
     pub part_some : 1 ≤ w.left
-    part_some = walk_some (on_deal n) (lineWorth worth currency ps) total ls i no_line within w.before w.left r.rest r.count (eq-eqb (get_or ls i no_line).deal n own)
+    part_some = walk_some (on_deal n) (line_worth worth currency ps) total ls i no_line within w.before w.left r.rest r.count (eq-eqb (get_or ls i no_line).deal n own)
 
-    pub part_room : w.before + lineWorth worth currency ps (get_or ls i no_line) ≤ total
-    part_room = walk_room (on_deal n) (lineWorth worth currency ps) total ls i no_line within w.before w.left r.rest r.count (eq-eqb (get_or ls i no_line).deal n own)
+    pub part_room : w.before + line_worth worth currency ps (get_or ls i no_line) ≤ total
+    part_room = walk_room (on_deal n) (line_worth worth currency ps) total ls i no_line within w.before w.left r.rest r.count (eq-eqb (get_or ls i no_line).deal n own)
 
-    pub part_mine : (cash v : ℕ) (y : Line) → v ≡ lineWorth worth currency ps (get_or ls i no_line) → y ≡ with_part (get_or ls i no_line) (line_part cash total w.before v (eqb w.left 1))
+    pub part_mine : (cash v : ℕ) (y : Line) → v ≡ line_worth worth currency ps (get_or ls i no_line) → y ≡ with_part (get_or ls i no_line) (line_part cash total w.before v (eqb w.left 1))
         → Reached worth currency ps n total (set ls i y) (i + 1) (record { before = w.before + v; left = w.left - 1 }) × (walked worth currency ps n cash total (w.before + v) (i + 1) (set ls i y) ≡ walked worth currency ps n cash total w.before i ls)
     part_mine cash v y is put =
         let x = get_or ls i no_line in
         let mine = on_deal n in
-        let value = lineWorth worth currency ps in
+        let value = line_worth worth currency ps in
         let t = eq-eqb x.deal n own in
         let on = walk_mine mine value total ls i no_line within w.before w.left r.rest r.count t y in
         let last = walk_last mine value total ls i no_line within w.before w.left r.rest r.count t in
@@ -62,12 +62,12 @@ module _ (worth : ℕ → ℕ → ℕ → ℕ) (currency : Currency) (ps : List 
 
 -- ── where a walk begins and ends ──
 
-module _ (worth : ℕ → ℕ → ℕ → ℕ) (currency : Currency) (ps : List Price) (n : ℕ) (ls : List Line) (cash total left : ℕ) (s : Share) (sum : total ≡ dealWorth worth currency ps n ls) (made : Some (terms_of s) ≡ sharable cash total) where
+module _ (worth : ℕ → ℕ → ℕ → ℕ) (currency : Currency) (ps : List Price) (n : ℕ) (ls : List Line) (cash total left : ℕ) (s : Share) (sum : total ≡ deal_worth worth currency ps n ls) (made : Some (terms_of s) ≡ sharable cash total) where
   pub walk_starts : left ≡ length (picked (on_deal n) return_number ls) → Reached worth currency ps n s.total ls 0 (record { before = 0; left = left })
   walk_starts count =
       record {
         rest = omega (arith, deal_total worth currency ps n ls, (made_of s cash total made).2);
-        count = count ∙ picked_count (on_deal n) return_number (lineWorth worth currency ps) ls;
+        count = count ∙ picked_count (on_deal n) return_number (line_worth worth currency ps) ls;
       }
 
   pub walk_ends : (after : List Line) → after ≡ walked worth currency ps n s.cash s.total 0 0 ls → (true ≡ leb cash most_cash) × (after ≡ cond (leb cash most_cash) (shared_out worth currency ps n cash ls) ls)

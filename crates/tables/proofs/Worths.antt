@@ -13,7 +13,7 @@ use Rattle.valuation.specs.Prices.{price_in, in_ranges, quoted, no_price}
 use Rattle.gathering.specs.Law.{record_of}
 use Rattle.memory.specs.declared.row.Line.{Line}
 use Rattle.memory.specs.Rows.{no_line}
-use Rattle.tables.specs.Values.{priced, worth_of, lineWorth, dealWorth, on_deal}
+use Rattle.tables.specs.Values.{priced, worth_of, line_worth, deal_worth, on_deal}
 
 unpriced : (currency : Currency) → quoted currency no_price ≡ None
 unpriced Gbp = refl
@@ -43,26 +43,26 @@ module _ (worth : ℕ → ℕ → ℕ → ℕ) (currency : Currency) (ps : List 
         omega (arith, more (price_in currency p) p.haircut q most_units few, most (price_in currency p) p.haircut (price_most currency p ranged.0)))
         (λ _. omega arith)
 
-    pub worth_on_most : (b : Bool) (l : Line) → cond b (lineWorth worth currency ps l) 0 ≤ most_worth
+    pub worth_on_most : (b : Bool) (l : Line) → cond b (line_worth worth currency ps l) 0 ≤ most_worth
     worth_on_most true l = worth_most l.security l.quantity
     worth_on_most false l = omega arith
 
   -- ── one line more ──
 
-  pub deal_more : (n : ℕ) (ls : List Line) (i : ℕ) → i < length ls → dealWorth worth currency ps n (drop i ls) ≡ cond (on_deal n (get_or ls i no_line)) (lineWorth worth currency ps (get_or ls i no_line)) 0 + dealWorth worth currency ps n (drop (i + 1) ls)
-  unfolding dealWorth
-  deal_more n ls i h = at_drop_more (dealWorth worth currency ps n) ls i no_line h
+  pub deal_more : (n : ℕ) (ls : List Line) (i : ℕ) → i < length ls → deal_worth worth currency ps n (drop i ls) ≡ cond (on_deal n (get_or ls i no_line)) (line_worth worth currency ps (get_or ls i no_line)) 0 + deal_worth worth currency ps n (drop (i + 1) ls)
+  unfolding deal_worth
+  deal_more n ls i h = at_drop_more (deal_worth worth currency ps n) ls i no_line h
 
-  pub deal_all : (n : ℕ) (ls : List Line) (i : ℕ) → length ls ≤ i → dealWorth worth currency ps n (drop i ls) ≡ 0
-  unfolding dealWorth
-  deal_all n ls i h = at_drop_all (dealWorth worth currency ps n) ls i h
+  pub deal_all : (n : ℕ) (ls : List Line) (i : ℕ) → length ls ≤ i → deal_worth worth currency ps n (drop i ls) ≡ 0
+  unfolding deal_worth
+  deal_all n ls i h = at_drop_all (deal_worth worth currency ps n) ls i h
 
   -- the sum of the worths, one by one
-  pub deal_total : (n : ℕ) (ls : List Line) → dealWorth worth currency ps n ls ≡ total_of (picked (on_deal n) (lineWorth worth currency ps) ls)
-  unfolding dealWorth
+  pub deal_total : (n : ℕ) (ls : List Line) → deal_worth worth currency ps n ls ≡ total_of (picked (on_deal n) (line_worth worth currency ps) ls)
+  unfolding deal_worth
   deal_total n [] = refl
   deal_total n (l ∷ ls) =
       elim (cases_Bool (on_deal n l)) [
-        | inl t ↦ rw t (ap (λ m. lineWorth worth currency ps l + m) (deal_total n ls))
+        | inl t ↦ rw t (ap (λ m. line_worth worth currency ps l + m) (deal_total n ls))
         | inr e ↦ rw e (omega (arith, deal_total n ls))
       ]

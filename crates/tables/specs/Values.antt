@@ -19,22 +19,22 @@ module _ (worth : ℕ → ℕ → ℕ → ℕ) (currency : Currency) (ps : List 
   abbrev pub worth_of : ℕ → ℕ → ℕ
   worth_of s q = cond (priced s q) (worth (price_in currency (record_of ps s)) (record_of ps s).haircut q) 0
 
-  abbrev pub lineWorth : Line → ℕ
-  lineWorth l = worth_of l.security l.quantity
+  abbrev pub line_worth : Line → ℕ
+  line_worth l = worth_of l.security l.quantity
 
   -- the lines of deal n together
-  unfoldable pub dealWorth : ℕ → List Line → ℕ
-  dealWorth n [] = 0
-  dealWorth n (l ∷ ls) = cond (l.deal == n) (lineWorth l) 0 + dealWorth n ls
+  unfoldable pub deal_worth : ℕ → List Line → ℕ
+  deal_worth n [] = 0
+  deal_worth n (l ∷ ls) = cond (l.deal == n) (line_worth l) 0 + deal_worth n ls
 
   -- those of them that are in security s
-  unfoldable pub heldWorth : ℕ → ℕ → List Line → ℕ
-  heldWorth n s [] = 0
-  heldWorth n s (l ∷ ls) = cond (l.deal == n && l.security == s) (lineWorth l) 0 + heldWorth n s ls
+  unfoldable pub held_worth : ℕ → ℕ → List Line → ℕ
+  held_worth n s [] = 0
+  held_worth n s (l ∷ ls) = cond (l.deal == n && l.security == s) (line_worth l) 0 + held_worth n s ls
 
   -- for each security from 3 on
-  unfoldable pub heldWorths : ℕ → List Line → List ℕ
-  heldWorths n ls = map (λ k. heldWorth n (3 + k) ls) (range_with_len 0 125)
+  unfoldable pub held_worths : ℕ → List Line → List ℕ
+  held_worths n ls = map (λ k. held_worth n (3 + k) ls) (range_with_len 0 125)
 
 abbrev pub on_deal : ℕ → Line → Bool
 on_deal n l = l.deal == n
@@ -44,7 +44,7 @@ with_part l part = record { number = l.number; deal = l.deal; security = l.secur
 
 -- cash shared out over the lines of deal n
 abbrev pub shared_out : (ℕ → ℕ → ℕ → ℕ) → Currency → List Price → ℕ → ℕ → List Line → List Line
-shared_out worth currency ps n cash ls = shared (on_deal n) (lineWorth worth currency ps) with_part cash ls
+shared_out worth currency ps n cash ls = shared (on_deal n) (line_worth worth currency ps) with_part cash ls
 
 -- the same in a table of which so many rows are used
 abbrev pub shared_in : (ℕ → ℕ → ℕ → ℕ) → Currency → List Price → ℕ → ℕ → ℕ → List Line → List Line

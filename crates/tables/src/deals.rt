@@ -1,7 +1,7 @@
 //! Deals that come into their table and go from it.
 ghost use Rattle.std.specs.Prelude.{◌≡◌, ◌+◌, ◌-◌, if◌then◌else◌, slice_set};
 ghost use Rattle.memory.specs.Rows.{no_deal};
-ghost use Rattle.memory.specs.Sound.{number as dealNumber};
+ghost use Rattle.memory.specs.Sound.{number as deal_number};
 ghost use Rattle.tables.specs.Rows.{has_room, is_used, without, using_deals};
 ghost use Rattle.tables.specs.Stays.{AddsFilled, RemovesFilled};
 
@@ -41,7 +41,7 @@ pub fn add_deal(head: &mut Head, deals: &mut [Deal], deal: Deal) -> bool
     ensures answer { result ≡ has_room 64 head.old.used.deals deals.old }
     ensures deals { deals.new ≡ (if has_room 64 head.old.used.deals deals.old then slice_set deals.old head.old.used.deals deal else deals.old) }
     ensures head { head.new ≡ (if has_room 64 head.old.used.deals deals.old then using_deals (head.old.used.deals + 1) head.old else head.old) }
-    ensures filled { AddsFilled dealNumber no_deal 64 deal head.old.used.deals deals.old head.new.used.deals deals.new }
+    ensures filled { AddsFilled deal_number no_deal 64 deal head.old.used.deals deals.old head.new.used.deals deals.new }
 {
     put_deal(head, deals, deal)
 }
@@ -51,7 +51,7 @@ pub fn remove_deal(head: &mut Head, deals: &mut [Deal], row: usize) -> bool
     ensures answer { result ≡ is_used 64 head.old.used.deals row deals.old }
     ensures deals { deals.new ≡ (if is_used 64 head.old.used.deals row deals.old then without no_deal head.old.used.deals row deals.old else deals.old) }
     ensures head { head.new ≡ (if is_used 64 head.old.used.deals row deals.old then using_deals (head.old.used.deals - 1) head.old else head.old) }
-    ensures filled { RemovesFilled dealNumber no_deal 64 head.old.used.deals deals.old head.new.used.deals deals.new }
+    ensures filled { RemovesFilled deal_number no_deal 64 head.old.used.deals deals.old head.new.used.deals deals.new }
 {
     take_deal(head, deals, row)
 }

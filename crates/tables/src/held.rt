@@ -3,7 +3,7 @@ ghost use Rattle.std.specs.Prelude.{◌≡◌, ℕ, ◌*◌, ◌<◌, ◌≤◌,
 ghost use Rattle.valuation.specs.Most.{most_worth};
 ghost use Rattle.tables.specs.Held.{with_held};
 ghost use Rattle.tables.specs.Rows.{fits};
-ghost use Rattle.tables.specs.Values.{heldWorths};
+ghost use Rattle.tables.specs.Values.{held_worths};
 
 use crate::gap::fit;
 use crate::worth::line_worth;
@@ -37,7 +37,7 @@ fn held_on<V: Valuation>(
     lines: &[Line],
 ) -> [u64; 125]
     requires { length lines.now ≤ 1024 }
-    ensures { result ≡ heldWorths (V.Valuation.worth valuation.now) currency prices.now number lines.now }
+    ensures { result ≡ held_worths (V.Valuation.worth valuation.now) currency prices.now number lines.now }
 {
     let mut sums = [0; 125];
     for line in lines {
@@ -56,7 +56,7 @@ pub fn held_worths<V: Valuation>(
     lines: &[Line],
     used: u32,
 ) -> Option<[u64; 125]>
-    ensures { result ≡ (if fits 1024 used lines.now then Some (heldWorths (V.Valuation.worth valuation.now) currency prices.now number (take used lines.now)) else None) }
+    ensures { result ≡ (if fits 1024 used lines.now then Some (held_worths (V.Valuation.worth valuation.now) currency prices.now number (take used lines.now)) else None) }
 {
     if !fit(lines, used, 1_024) {
         return None;

@@ -1,7 +1,7 @@
 //! What the lines of a deal are worth together.
 ghost use Rattle.std.specs.Prelude.{◌≡◌, ◌≤◌, length, take, if◌then◌else◌, Some, None};
 ghost use Rattle.tables.specs.Rows.{fits};
-ghost use Rattle.tables.specs.Values.{lineWorth, dealWorth, on_deal};
+ghost use Rattle.tables.specs.Values.{line_worth, deal_worth, on_deal};
 
 use crate::gap::fit;
 use crate::worth::line_worth;
@@ -16,7 +16,7 @@ fn worth_on<V: Valuation>(
     number: u32,
     line: &Line,
 ) -> u64
-    ensures { result ≡ (if on_deal number line.now then lineWorth (V.Valuation.worth valuation.now) currency prices.now line.now else 0) }
+    ensures { result ≡ (if on_deal number line.now then line_worth (V.Valuation.worth valuation.now) currency prices.now line.now else 0) }
 {
     if line.deal == number {
         line_worth(valuation, prices, currency, line)
@@ -34,7 +34,7 @@ pub(crate) fn total_on<V: Valuation>(
     lines: &[Line],
 ) -> u64
     requires { length lines.now ≤ 1024 }
-    ensures { result ≡ dealWorth (V.Valuation.worth valuation.now) currency prices.now number lines.now }
+    ensures { result ≡ deal_worth (V.Valuation.worth valuation.now) currency prices.now number lines.now }
 {
     let mut sum = 0;
     for line in lines {
@@ -52,7 +52,7 @@ pub fn deal_worth<V: Valuation>(
     lines: &[Line],
     used: u32,
 ) -> Option<u64>
-    ensures { result ≡ (if fits 1024 used lines.now then Some (dealWorth (V.Valuation.worth valuation.now) currency prices.now number (take used lines.now)) else None) }
+    ensures { result ≡ (if fits 1024 used lines.now then Some (deal_worth (V.Valuation.worth valuation.now) currency prices.now number (take used lines.now)) else None) }
 {
     if !fit(lines, used, 1_024) {
         return None;

@@ -4,7 +4,7 @@ ghost use Rattle.std.specs.Option.{option_map};
 ghost use Rattle.valuation.specs.Prices.{quoted};
 ghost use Rattle.valuation.specs.Ranges.{terms};
 ghost use Rattle.gathering.specs.Law.{record_of};
-ghost use Rattle.tables.specs.Values.{worth_of, lineWorth};
+ghost use Rattle.tables.specs.Values.{worth_of, line_worth};
 
 use memory::Line;
 use valuation::{Currency, Price, Quote, Units, Valuation};
@@ -47,7 +47,7 @@ pub fn line_worth<V: Valuation>(
     currency: Currency,
     line: &Line,
 ) -> u64
-    ensures { result ≡ lineWorth (V.Valuation.worth valuation.now) currency prices.now line.now }
+    ensures { result ≡ line_worth (V.Valuation.worth valuation.now) currency prices.now line.now }
 {
     quantity_worth(valuation, prices, currency, line.security, line.quantity)
 }

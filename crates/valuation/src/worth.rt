@@ -41,13 +41,13 @@ impl Valuation for Margin {
 
     ghost target = { λ v sought. with_margin v.margin sought };
 
-    ghost none = { first_of (Prim.search rules, Prim.grind (arith, Self.row.coded.inj)) };
+    ghost none = { Prim.search rules };
 
     ghost more = { λ v p h a b le. market_more p a b le };
 
     ghost most = { λ v p h hp. market_most p most_units hp (omega arith) };
 
-    ghost enough = { first_of (Prim.search rules, Prim.grind (arith, Self.row.coded.inj)) };
+    ghost enough = { Prim.search rules };
 
     fn value(&self, quote: Quote, quantity: Units) -> u64 {
         market_value(quote, quantity)
