@@ -1,13 +1,13 @@
 -- Movements that are made one after another. Assumes nothing.
 use Rattle.std.proofs.Common.{◌≡◌, ℕ, ◌+◌, ◌-◌, ◌<◌, ◌≤◌, List, [], ◌∷◌, ◌++◌, length, get_or, take, drop, Ok, Err, Result, sym, refl, ap, ◌∙◌, add-zero, arith}
-use Rattle.std.proofs.lemmas.List.{take_more, drop_more, drop_all, at_drop_more, take-append-drop, take-take, get_or-take, length-take-le}
+use Rattle.std.proofs.lemmas.List.{take_more, drop_more, drop_all, at_drop_more, take-append-drop, length-take-le}
 use Rattle.book.specs.declared.movement.Movement.{Movement}
 use Rattle.book.specs.declared.movement.RefusedAt.{RefusedAt}
 use Rattle.book.specs.declared.refusal.BookRefusal.{BookRefusal}
 use Rattle.book.specs.Meaning.{Meaning, Lawful, limit}
-use Rattle.book.specs.Moving.{judged, verdict, moved}
-use Rattle.book.specs.Lists.{run, none, foreseen, or_next, refusal_from, rehearsed}
-use Rattle.book.proofs.Moves.{allowed, moved_lawful}
+use Rattle.book.specs.Moving.{judged, verdict, moved, after}
+use Rattle.book.specs.Lists.{run, none, or_next, refusal_from, rehearsed}
+use Rattle.book.proofs.Moves.{allowed, after_made, moved_lawful}
 
 -- ── what a run leaves ──
 
@@ -48,10 +48,10 @@ unfolding run
 run_left m [] = omega arith
 run_left m (v ∷ vs) = omega (arith, run_left (moved m v) vs)
 
--- what is foreseen after a run is what the book answers then
-pub foreseen_is : (m : Meaning) (us : List Movement) (v : Movement) → foreseen m us (length us) v ≡ verdict (run m us) v
-foreseen_is m us v =
-    λ i. judged (sym (run_accounts m us) i) (sym (run_resources m us) i) ((run m us).amount v.from v.resource) (sym (run_holdback m us) i v.from v.resource) ((run m us).amount v.to v.resource) (sym (run_left m us) i) v
+-- after a run a book answers by what the run leaves of the two amounts, and of the movements left
+pub verdict_run : (m : Meaning) (us : List Movement) (v : Movement) → verdict (run m us) v ≡ judged m.accounts m.resources ((run m us).amount v.from v.resource) (m.holdback v.from v.resource) ((run m us).amount v.to v.resource) (m.left - length us) v
+verdict_run m us v =
+    λ i. judged (run_accounts m us i) (run_resources m us i) ((run m us).amount v.from v.resource) (run_holdback m us i v.from v.resource) ((run m us).amount v.to v.resource) (run_left m us i) v
 
 -- ── the first refusal ──
 
@@ -110,33 +110,37 @@ module _ (m : Meaning) (vs : List Movement) (i : ℕ) where
     pub accepted_at : Ok tt ≡ rehearsed m vs → Ok tt ≡ verdict (run m (take i vs)) (get_or vs i none)
     accepted_at e = (refusal_more (run m (take i vs)) vs i h (e ∙ rest_decides (take_accepted e))).0
 
-    module _ (before : Ok tt ≡ rehearsed m (take i vs)) where
-      foreseen_at : foreseen m (take i vs) i (get_or vs i none) ≡ verdict (run m (take i vs)) (get_or vs i none)
-      foreseen_at = ap (λ k. foreseen m (take i vs) k (get_or vs i none)) (sym n) ∙ foreseen_is m (take i vs) (get_or vs i none)
+-- the first refusal
+pub refused_at : (m : Meaning) (vs : List Movement) (i : ℕ) (e : BookRefusal) → i < length vs → Ok tt ≡ rehearsed m (take i vs) → Err e ≡ verdict (run m (take i vs)) (get_or vs i none) → Err (record { place = i; refusal = e }) ≡ rehearsed m vs
+unfolding refusal_from
+refused_at m vs i e h before is =
+    sym (rest_decides m vs i h before ∙ ap (refusal_from i (run m (take i vs))) (drop_more vs i none h)
+    ∙ ap (λ a. or_next i a (refusal_from (i + 1) (moved (run m (take i vs)) (get_or vs i none)) (drop (i + 1) vs))) (sym is))
 
-      -- the first refusal
-      pub refused_at : (e : BookRefusal) → Err e ≡ foreseen m (take i vs) i (get_or vs i none) → Err (record { place = i; refusal = e }) ≡ rehearsed m vs
-      unfolding refusal_from
-      refused_at e is =
-          sym (rest_decides before ∙ ap (refusal_from i (run m (take i vs))) (drop_more vs i none h)
-          ∙ ap (λ a. or_next i a (refusal_from (i + 1) (moved (run m (take i vs)) (get_or vs i none)) (drop (i + 1) vs))) (sym (is ∙ foreseen_at)))
+-- one movement more is accepted
+pub accepted_more : (m : Meaning) (vs : List Movement) (i : ℕ) → i < length vs → Ok tt ≡ rehearsed m (take i vs) → Ok tt ≡ verdict (run m (take i vs)) (get_or vs i none) → Ok tt ≡ rehearsed m (take (i + 1) vs)
+unfolding refusal_from
+accepted_more m vs i h before is =
+    sym (ap (rehearsed m) (take_more vs i none h)
+    ∙ refusal_append 0 m (take i vs) (get_or vs i none ∷ []) before
+    ∙ ap (λ a. or_next (0 + length (take i vs)) a (Ok tt)) (sym is))
 
-      -- one movement more is accepted
-      pub accepted_more : Ok tt ≡ foreseen m (take i vs) i (get_or vs i none) → Ok tt ≡ rehearsed m (take (i + 1) vs)
-      unfolding refusal_from
-      accepted_more is =
-          sym (ap (rehearsed m) (take_more vs i none h)
-          ∙ refusal_append 0 m (take i vs) (get_or vs i none ∷ []) before
-          ∙ ap (λ a. or_next (0 + length (take i vs)) a (Ok tt)) (sym (is ∙ foreseen_at)))
+-- the movement at i is made, where it and those after it are accepted
+module _ (m n : Meaning) (vs : List Movement) (i : ℕ) (h : i < length vs) (e : Ok tt ≡ refusal_from i m (drop i vs)) (is : n ≡ after m (get_or vs i none)) where
+  made : n ≡ moved m (get_or vs i none)
+  made = is ∙ after_made m (get_or vs i none) (refusal_more m vs i h e).0
+
+  pub run_step : run n (drop (i + 1) vs) ≡ run m (drop i vs)
+  run_step = ap (λ (k : Meaning). run k (drop (i + 1) vs)) made ∙ sym (run_drop m vs i h)
+
+  pub accepted_step : Ok tt ≡ refusal_from (i + 1) n (drop (i + 1) vs)
+  accepted_step = (refusal_more m vs i h e).1 ∙ sym (ap (λ (k : Meaning). refusal_from (i + 1) k (drop (i + 1) vs)) made)
 
 -- ── bounds on the way ──
 
-module _ (m : Meaning) (vs : List Movement) (i k : ℕ) (short : k ≤ length vs) (e : Ok tt ≡ rehearsed m (take k vs)) where
-  pub amount_low : i ≤ k → Lawful m → (a r : ℕ) → (run m (take i vs)).amount a r ≤ limit
-  amount_low le lawful = (run_lawful 0 m (take i vs) lawful (take_accepted m (take k vs) i e ∙ ap (rehearsed m) (take-take i k vs le))).amounts
+module _ (m : Meaning) (vs : List Movement) (e : Ok tt ≡ rehearsed m vs) where
+  pub amount_low : (i : ℕ) → Lawful m → (a r : ℕ) → (run m (take i vs)).amount a r ≤ limit
+  amount_low i lawful = (run_lawful 0 m (take i vs) lawful (take_accepted m vs i e)).amounts
 
-  pub quantity_low : i < k → (get_or vs i none).quantity ≤ limit
-  quantity_low lt =
-      let n = length-take-le k vs short in
-      let h = allowed (run m (take i (take k vs))) (get_or (take k vs) i none) (accepted_at m (take k vs) i (omega arith) e) in
-      rw (sym (get_or-take k vs i none lt)) (omega (arith, h.room))
+  pub quantity_low : (i : ℕ) → i < length vs → (get_or vs i none).quantity ≤ limit
+  quantity_low i h = omega (arith, (allowed (run m (take i vs)) (get_or vs i none) (accepted_at m vs i h e)).room)

@@ -1,10 +1,10 @@
 -- Movements one after another.
-use Rattle.std.specs.Prelude.{ℕ, ◌+◌, ◌-◌, cond, List, [], ◌∷◌, is_ok, Ok, Err, Result}
+use Rattle.std.specs.Prelude.{ℕ, ◌+◌, cond, List, [], ◌∷◌, is_ok, Ok, Err, Result}
 use Rattle.book.specs.declared.movement.Movement.{Movement}
 use Rattle.book.specs.declared.movement.RefusedAt.{RefusedAt}
 use Rattle.book.specs.declared.refusal.BookRefusal.{BookRefusal}
 use Rattle.book.specs.Meaning.{Meaning}
-use Rattle.book.specs.Moving.{judged, verdict, moved, after}
+use Rattle.book.specs.Moving.{verdict, moved, after}
 
 -- a book after movements that are all made
 unfoldable pub run : Meaning → List Movement → Meaning
@@ -13,11 +13,6 @@ run m (v ∷ vs) = run (moved m v) vs
 
 abbrev pub none : Movement
 none = record { from = 0; to = 0; resource = 0; quantity = 0 }
-
--- the answer to one movement more after a run of k, by what the run leaves of the two amounts
-abbrev pub foreseen : Meaning → List Movement → ℕ → Movement → Result (Unit {0}) BookRefusal
-foreseen m us k v =
-    judged m.accounts m.resources ((run m us).amount v.from v.resource) (m.holdback v.from v.resource) ((run m us).amount v.to v.resource) (m.left - k) v
 
 -- a refusal with its place, or else what comes after it
 abbrev pub or_next : ℕ → Result (Unit {0}) BookRefusal → Result (Unit {0}) RefusedAt → Result (Unit {0}) RefusedAt

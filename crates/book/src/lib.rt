@@ -6,9 +6,11 @@ mod contract;
 mod lists;
 mod movement;
 mod refusal;
+mod standing;
 
-pub use asking::{amount_at, free_at, held_by_all, holdback_at, judge};
+pub use asking::{amount_at, free_at, held_by_all, holdback_at};
 pub use contract::Book;
 pub use lists::{attempt, perform, rehearse};
-pub use movement::{Movement, RefusedAt};
+pub use movement::{LIMIT, Movement, RefusedAt};
 pub use refusal::BookRefusal;
+pub use standing::Standing;

@@ -1,14 +1,15 @@
 //! Lists of movements on any book: foreseen, made as a whole, or tried one by one.
-ghost use Rattle.std.specs.Prelude.{◌≡◌, ◌+◌, ◌<◌, ◌≤◌, length, take, drop, is_ok, if◌then◌else◌, Ok, Err, slice_index_or};
+ghost use Rattle.std.specs.Prelude.{◌≡◌, ◌≤◌, length, is_ok, if◌then◌else◌, Ok};
 ghost use Rattle.book.specs.Meaning.{limit};
 ghost use Rattle.book.specs.Moving.{shifted, verdict};
-ghost use Rattle.book.specs.Lists.{run, foreseen, none, refusal_from, rehearsed, performed, attempted, accepted};
+ghost use Rattle.book.specs.Lists.{run, rehearsed, performed, attempted, accepted};
 ghost use Rattle.book.specs.Law.{Conserved};
 
-use crate::asking::{amount_at, holdback_at, judge};
+use crate::asking::{amount_at, holdback_at};
 use crate::contract::Book;
 use crate::movement::{Movement, RefusedAt};
 use crate::refusal::BookRefusal;
+use crate::standing::Standing;
 
 /// What an amount becomes by a movement.
 fn shift(amount: u64, account: u32, resource: u32, movement: Movement) -> u64
@@ -26,71 +27,50 @@ fn shift(amount: u64, account: u32, resource: u32, movement: Movement) -> u64
     }
 }
 
-/// The amount of an account in a resource once the first `k` movements are made, all of which the book accepts.
-fn amount_after<B: Book>(book: &B, moves: &[Movement], k: usize, account: u32, resource: u32) -> u64
-    requires { (k ≤ length moves.now) × (Ok tt ≡ rehearsed (B.Book.meaning book.now) (take k moves.now)) }
-    ensures { result ≡ (run (B.Book.meaning book.now) (take k moves.now)).amount account resource }
+/// The amount of an account in a resource once movements are made, all of which the book accepts.
+fn amount_after<B: Book>(book: &B, made: &[Movement], account: u32, resource: u32) -> u64
+    requires { Ok tt ≡ rehearsed (B.Book.meaning book.now) made.now }
+    ensures { result ≡ (run (B.Book.meaning book.now) made.now).amount account resource }
 {
     let mut amount = amount_at(book, account, resource);
-    for i in 0..k {
-        amount = shift(amount, account, resource, moves[i]);
+    for movement in made {
+        amount = shift(amount, account, resource, *movement);
     }
     amount
 }
 
-/// What the book will answer to the movement at `k` once those before it are made.
-fn foresee<B: Book>(book: &B, moves: &[Movement], k: usize) -> Result<(), BookRefusal>
-    requires { (k < length moves.now) × (Ok tt ≡ rehearsed (B.Book.meaning book.now) (take k moves.now)) }
-    ensures { result ≡ foreseen (B.Book.meaning book.now) (take k moves.now) k (slice_index_or moves.now k none) }
+/// What the book will answer to a movement once others are made, all of which it accepts.
+#[tactic(auto, using(crate::proofs::Runs::verdict_run))]
+fn foresee<B: Book>(book: &B, made: &[Movement], next: Movement) -> Result<(), BookRefusal>
+    requires { Ok tt ≡ rehearsed (B.Book.meaning book.now) made.now }
+    ensures { result ≡ verdict (run (B.Book.meaning book.now) made.now) next }
 {
-    let next = moves[k];
-    let had = amount_after(book, moves, k, next.from, next.resource);
-    let held = holdback_at(book, next.from, next.resource);
-    let has = amount_after(book, moves, k, next.to, next.resource);
-    let left = book.movements_left().saturating_sub(k as u64);
-    judge(
-        book.accounts(),
-        book.resources(),
-        had,
-        held,
-        has,
-        left,
-        next,
-    )
-}
-
-/// One movement more of a list whose first `place` movements the book accepts.
-fn rehearse_at<B: Book>(book: &B, moves: &[Movement], place: usize) -> Result<(), RefusedAt>
-    requires { (place < length moves.now) × (Ok tt ≡ rehearsed (B.Book.meaning book.now) (take place moves.now)) }
-    ensures { elim result [ Ok _ ↦ Ok tt ≡ rehearsed (B.Book.meaning book.now) (take (place + 1) moves.now) | Err e ↦ Err e ≡ rehearsed (B.Book.meaning book.now) moves.now ] }
-{
-    match foresee(book, moves, place) {
-        Ok(()) => Ok(()),
-        Err(refusal) => Err(RefusedAt { place, refusal }),
-    }
+    let standing = Standing {
+        accounts: book.accounts(),
+        resources: book.resources(),
+        had: amount_after(book, made, next.from, next.resource),
+        held: holdback_at(book, next.from, next.resource),
+        has: amount_after(book, made, next.to, next.resource),
+        left: book.movements_left().saturating_sub(made.len() as u64),
+    };
+    standing.judge(next)
 }
 
 /// What the book will answer to a list that is made as a whole: the first refusal, with its place. Nothing is moved.
+#[tactic(auto, using(crate::proofs::Runs::refused_at, crate::proofs::Runs::accepted_more))]
 pub fn rehearse<B: Book>(book: &B, moves: &[Movement]) -> Result<(), RefusedAt>
     ensures { result ≡ rehearsed (B.Book.meaning book.now) moves.now }
 {
-    for place in 0..moves.len() {
-        rehearse_at(book, moves, place)?;
+    for (place, next) in moves.iter().enumerate() {
+        if let Err(refusal) = foresee(book, &moves[..place], *next) {
+            return Err(RefusedAt { place, refusal });
+        }
     }
     Ok(())
 }
 
-/// Makes the movement at `i`, where the book accepts it and those after it.
-fn make_at<B: Book>(book: &mut B, moves: &[Movement], i: usize)
-    requires { (i < length moves.now) × (Ok tt ≡ refusal_from i (B.Book.meaning book.old) (drop i moves.now)) }
-    ensures change { run (B.Book.meaning book.new) (drop (i + 1) moves.now) ≡ run (B.Book.meaning book.old) (drop i moves.now) }
-    ensures rest { Ok tt ≡ refusal_from (i + 1) (B.Book.meaning book.new) (drop (i + 1) moves.now) }
-    ensures stays { B.Book.home book.new ≡ B.Book.home book.old }
-{
-    let _ = book.transfer(moves[i]);
-}
-
 /// Makes a list of movements as a whole: all of them, or none and the first refusal with its place.
+#[tactic(auto, using(crate::proofs::Runs::run_step, crate::proofs::Runs::accepted_step))]
 pub fn perform<B: Book>(book: &mut B, moves: &[Movement]) -> Result<(), RefusedAt>
     ensures answer { result ≡ rehearsed (B.Book.meaning book.old) moves.now }
     ensures change { B.Book.meaning book.new ≡ performed (B.Book.meaning book.old) moves.now }
@@ -98,27 +78,14 @@ pub fn perform<B: Book>(book: &mut B, moves: &[Movement]) -> Result<(), RefusedA
     ensures stays { B.Book.home book.new ≡ B.Book.home book.old }
 {
     rehearse(book, moves)?;
-    for i in 0..moves.len() {
-        make_at(book, moves, i);
+    for movement in moves {
+        let _ = book.transfer(*movement);
     }
     Ok(())
 }
 
-/// Tries the movement at `i`, and answers the accepted ones with it.
-fn attempt_at<B: Book>(book: &mut B, moves: &[Movement], i: usize, made: usize) -> usize
-    requires { (i < length moves.now) × (made ≤ i) }
-    ensures change { attempted (B.Book.meaning book.new) (drop (i + 1) moves.now) ≡ attempted (B.Book.meaning book.old) (drop i moves.now) }
-    ensures count { result + accepted (B.Book.meaning book.new) (drop (i + 1) moves.now) ≡ made + accepted (B.Book.meaning book.old) (drop i moves.now) }
-    ensures few { result ≤ i + 1 }
-    ensures stays { B.Book.home book.new ≡ B.Book.home book.old }
-{
-    match book.transfer(moves[i]) {
-        Ok(()) => made + 1,
-        Err(_) => made,
-    }
-}
-
 /// Tries movements one by one, and answers how many were accepted.
+#[tactic(auto, using(crate::proofs::Attempts::attempted_more, crate::proofs::Attempts::accepted_more))]
 pub fn attempt<B: Book>(book: &mut B, moves: &[Movement]) -> usize
     ensures answer { result ≡ accepted (B.Book.meaning book.old) moves.now }
     ensures change { B.Book.meaning book.new ≡ attempted (B.Book.meaning book.old) moves.now }
@@ -126,8 +93,10 @@ pub fn attempt<B: Book>(book: &mut B, moves: &[Movement]) -> usize
     ensures stays { B.Book.home book.new ≡ B.Book.home book.old }
 {
     let mut made = 0;
-    for i in 0..moves.len() {
-        made = attempt_at(book, moves, i, made);
+    for movement in moves {
+        if book.transfer(*movement).is_ok() {
+            made += 1;
+        }
     }
     made
 }

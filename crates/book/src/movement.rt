@@ -1,8 +1,11 @@
 //! Movements, and where a list of them is refused.
 use crate::refusal::BookRefusal;
 
+/// The most that an account has of a resource, and the most that is held back of it.
+pub const LIMIT: u64 = 1_000_000_000_000_000;
+
 /// A quantity of a resource from one account to another.
-#[derive(Clone, Copy)]
+#[derive(Clone, Copy, PartialEq, Eq, Debug, Default)]
 pub struct Movement {
     pub from: u32,
     pub to: u32,

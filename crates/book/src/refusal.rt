@@ -5,33 +5,25 @@ ghost use Rattle.book.specs.Refusals.{number_of};
 #[derive(Clone, Copy, PartialEq, Eq, Debug)]
 pub enum BookRefusal {
     /// An account or a resource that the book does not have, or one account twice.
-    Outside,
+    Outside = 41,
     /// Nothing is moved, or more than 10^15 would be held back.
-    Quantity,
+    Quantity = 42,
     /// More than the sender's free amount.
-    NotFree,
+    NotFree = 43,
     /// The receiver would pass 10^15.
-    NoRoom,
+    NoRoom = 44,
     /// No movements are left.
-    NoMovements,
+    NoMovements = 45,
     /// A row beyond those that the holdback layer has.
-    NoRow,
+    NoRow = 46,
     /// Memory that no book can be laid over.
-    Unfit,
+    Unfit = 47,
 }
 
 impl BookRefusal {
     pub fn number(self) -> u32
         ensures { result ≡ number_of self }
     {
-        match self {
-            BookRefusal::Outside => 41,
-            BookRefusal::Quantity => 42,
-            BookRefusal::NotFree => 43,
-            BookRefusal::NoRoom => 44,
-            BookRefusal::NoMovements => 45,
-            BookRefusal::NoRow => 46,
-            BookRefusal::Unfit => 47,
-        }
+        self as u32
     }
 }

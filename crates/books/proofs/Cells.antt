@@ -1,37 +1,14 @@
 -- Amounts that lie in memory row by row. Assumes nothing.
-use Rattle.std.proofs.Common.{◌≡◌, ℕ, zero, suc, ◌+◌, ◌-◌, ◌*◌, ◌/◌, ◌%◌, ◌<◌, ◌≤◌, true, false, cond, ◌&&◌, eqb, leb, ◌≢◌, List, [], ◌∷◌, length, get_or, drop, set, Ok, sym, ap, ◌∙◌, inl, inr, arith}
+use Rattle.std.proofs.Common.{◌≡◌, ℕ, ◌+◌, ◌-◌, ◌*◌, ◌/◌, ◌%◌, ◌<◌, cond, ◌&&◌, eqb, ◌≢◌, List, length, set, Ok, is_ok, sym, ap, ◌∙◌, inl, inr, arith}
 use mathlib.Core.Path.{fun_ext}
 use Rattle.std.proofs.lemmas.Nat.{mul-add-lt, div-mul-add, mod-mul-add}
-use Rattle.std.proofs.lemmas.List.{get_or-set_same, get_or-set_other, length-set, at_drop_more, at_drop_all}
-use Rattle.std.proofs.lemmas.Bool.{cases_lt, cases_eq, and_parts, leb-true, lt-leb, le-leb}
+use Rattle.std.proofs.lemmas.List.{get_or-set_same, get_or-set_other, length-set}
+use Rattle.std.proofs.lemmas.Bool.{cases_lt, cases_eq}
 use Rattle.std.proofs.lemmas.Bool.Decides.{nat_tests}
 use Rattle.book.specs.declared.movement.Movement.{Movement}
-use Rattle.book.specs.Meaning.{limit}
 use Rattle.book.specs.Moving.{verdict, moved, shifted}
 use Rattle.book.proofs.Moves.{allowed}
-use Rattle.books.specs.Laying.{all_low, cell, opened, written}
-
--- ── the check ──
-
-pub low_more : (xs : List ℕ) (i : ℕ) → i < length xs → get_or xs i 0 ≤ limit → all_low (drop i xs) ≡ all_low xs → all_low (drop (i + 1) xs) ≡ all_low xs
-unfolding all_low
-low_more xs i h le inv =
-    ap (λ b. b && all_low (drop (i + 1) xs)) (sym (le-leb (get_or xs i 0) limit le)) ∙ sym (at_drop_more all_low xs i 0 h) ∙ inv
-
-pub low_not : (xs : List ℕ) (i : ℕ) → i < length xs → limit < get_or xs i 0 → all_low (drop i xs) ≡ all_low xs → false ≡ all_low xs
-unfolding all_low
-low_not xs i h gt inv =
-    ap (λ b. b && all_low (drop (i + 1) xs)) (sym (lt-leb (get_or xs i 0) limit gt)) ∙ sym (at_drop_more all_low xs i 0 h) ∙ inv
-
-pub low_all : (xs : List ℕ) (i : ℕ) → length xs ≤ i → all_low (drop i xs) ≡ all_low xs → true ≡ all_low xs
-unfolding all_low
-low_all xs i h inv = sym (at_drop_all all_low xs i h) ∙ inv
-
-pub low_at : (xs : List ℕ) → all_low xs ≡ true → (k : ℕ) → k < length xs → get_or xs k 0 ≤ limit
-unfolding all_low
-low_at [] e k h = absurd (omega arith)
-low_at (x ∷ xs) e zero h = leb-true x limit (and_parts (leb x limit) (all_low xs) e).0
-low_at (x ∷ xs) e (suc k) h = low_at xs (and_parts (leb x limit) (all_low xs) e).1 k (omega arith)
+use Rattle.books.specs.Laying.{cell, opened, written, amounts_after}
 
 -- ── writing ──
 
@@ -83,13 +60,7 @@ module _ (A R n : ℕ) (xs : List ℕ) (v : Movement) (whole : length xs ≡ A *
       two ∙ shifted_by_writes v (cell A R xs) a r _ h.apart one
 
   -- writing the two amounts is moving
-  pub opened_moved : (sender receiver : ℕ) → sender ≡ cell A R xs v.from v.resource - v.quantity → receiver ≡ cell A R xs v.to v.resource + v.quantity → opened A R (n - 1) (written R v sender receiver xs) ≡ moved (opened A R n xs) v
-  opened_moved sender receiver p q =
-      (λ i. opened A R (n - 1) (written R v (p i) (q i) xs))
+  pub opened_after : opened A R (n - 1) (amounts_after A R n v xs) ≡ moved (opened A R n xs) v
+  opened_after =
+      ap (λ a. opened A R (n - 1) (cond (is_ok a) after xs)) (sym ok)
       ∙ ap (λ f. record { accounts = A; resources = R; amount = f; holdback = λ _ _. 0; left = n - 1 }) (fun_ext (λ a. fun_ext (at a)))
-
-  pub sender_place : v.from * R + v.resource < length xs
-  sender_place = let h = allowed (opened A R n xs) v ok in omega (arith, place_below A R v.from v.resource h.from_in h.resource_in)
-
-  pub receiver_place : v.to * R + v.resource < length xs
-  receiver_place = let h = allowed (opened A R n xs) v ok in omega (arith, place_below A R v.to v.resource h.to_in h.resource_in)

@@ -1,43 +1,47 @@
--- Where the first row that passes stands. Assumes nothing.
-use Rattle.std.proofs.Common.{◌≡◌, ℕ, ◌+◌, ◌<◌, ◌≤◌, Bool, true, false, cond, ◌||◌, List, [], ◌∷◌, ◌++◌, length, get_or, take, drop, Some, None, sym, refl, ap, ◌∙◌, add-one}
-use Rattle.std.proofs.lemmas.List.{at_drop_more, at_drop_all, take_more, set_split, append_assoc}
+-- The first row that passes, by its place. Assumes nothing.
+use Rattle.std.proofs.Common.{◌≡◌, ℕ, Bool, true, false, cond, List, [], ◌∷◌, length, nat_lt, set, Some, None, Option, sym, refl, ap, ◌∙◌, inl, inr, one-add, arith}
+use Rattle.std.proofs.lemmas.Bool.{cases_Bool, lt-ltb}
+use Rattle.std.proofs.lemmas.Bool.Decides.{nat_tests}
+use Rattle.std.specs.List.{list_any, position, position_or_len}
 use Rattle.books.specs.declared.row.HoldRow.{HoldRow}
-use Rattle.books.specs.Rows.{free_row, any, replaced, Placed}
+use Rattle.books.specs.Rows.{replaced}
 
--- none of the first i rows passes
-pub record Passed (p : HoldRow → Bool) (rows : List HoldRow) (i : ℕ) : Type 0 where
-  pub rest : any p (drop i rows) ≡ any p rows
-  pub later : (w : HoldRow) → take i rows ++ replaced p w (drop i rows) ≡ replaced p w rows
+module _ (p : HoldRow → Bool) where
+  list_any_by_position : (rows : List HoldRow) → list_any p rows ≡ nat_lt (position_or_len p rows) (length rows)
+  list_any_by_position [] = refl
+  list_any_by_position (x ∷ rows) =
+      elim (cases_Bool (p x)) [
+        | inl e ↦ rw e (sym (lt-ltb 0 (length (x ∷ rows)) (omega arith)))
+        | inr e ↦ rw e (list_any_by_position rows ∙ grind (arith, nat_tests))
+      ]
 
-module _ (p : HoldRow → Bool) (rows : List HoldRow) where
-  pub passed_none : Passed p rows 0
-  passed_none = record { rest = refl; later = λ w. refl }
+  set_at_position : (w : HoldRow) (rows : List HoldRow) → set rows (position_or_len p rows) w ≡ replaced p w rows
+  unfolding replaced
+  set_at_position w [] = refl
+  set_at_position w (x ∷ rows) =
+      elim (cases_Bool (p x)) [
+        | inl e ↦ rw e refl
+        | inr e ↦ rw (e, one-add (position_or_len p rows)) (ap (λ ys. x ∷ ys) (set_at_position w rows))
+      ]
 
-  module _ (i : ℕ) (b : Passed p rows i) where
-    pub passed_all : length rows ≤ i → Placed p rows None
-    unfolding any
-    passed_all h = sym b.rest ∙ at_drop_all (any p) rows i h
+  by_test : (rows : List HoldRow) (b : Bool) → nat_lt (position_or_len p rows) (length rows) ≡ b → position p rows ≡ cond b (Some (position_or_len p rows)) None
+  by_test rows b e = ap (λ t. cond t (Some (position_or_len p rows)) None) e
 
-    module _ (h : i < length rows) where
-      pub passed_here : p (get_or rows i free_row) ≡ true → Placed p rows (Some i)
-      unfolding any replaced
-      passed_here e = (
-        h,
-        sym b.rest ∙ (at_drop_more (any p) rows i free_row h ∙ ap (λ t. t || any p (drop (i + 1) rows)) e),
-        λ w. set_split rows i w h
-            ∙ (ap (λ k. take i rows ++ w ∷ drop k rows) (sym (add-one i))
-            ∙ (ap (λ t. take i rows ++ cond t (w ∷ drop (i + 1) rows) (get_or rows i free_row ∷ replaced p w (drop (i + 1) rows))) (sym e)
-            ∙ (ap (λ ys. take i rows ++ ys) (sym (at_drop_more (replaced p w) rows i free_row h)) ∙ b.later w))),
-      )
+  -- where a row is found, it is the one that is replaced
+  pub found : (rows : List HoldRow) (i : ℕ) → Some i ≡ position p rows → (list_any p rows ≡ true) × ((w : HoldRow) → set rows i w ≡ replaced p w rows)
+  found rows i e =
+      elim (cases_Bool (nat_lt (position_or_len p rows) (length rows))) [
+        | inl t ↦
+            let is : Some i ≡ Some (position_or_len p rows) = e ∙ by_test rows true t in
+            let k : i ≡ position_or_len p rows = cc in
+            (list_any_by_position rows ∙ t, λ w. ap (λ j. set rows j w) k ∙ set_at_position w rows)
+        | inr t ↦ absurd (let z : ◌≡◌ {A = Option ℕ} (Some i) None = e ∙ by_test rows false t in cc)
+      ]
 
-      pub passed_more : p (get_or rows i free_row) ≡ false → Passed p rows (i + 1)
-      unfolding any replaced
-      passed_more e =
-          record {
-            rest = ap (λ t. t || any p (drop (i + 1) rows)) (sym e) ∙ (sym (at_drop_more (any p) rows i free_row h) ∙ b.rest);
-            later = λ w.
-                ap (λ ys. ys ++ replaced p w (drop (i + 1) rows)) (take_more rows i free_row h)
-                ∙ (append_assoc (take i rows) (get_or rows i free_row ∷ []) (replaced p w (drop (i + 1) rows))
-                ∙ (ap (λ t. take i rows ++ cond t (w ∷ drop (i + 1) rows) (get_or rows i free_row ∷ replaced p w (drop (i + 1) rows))) (sym e)
-                ∙ (ap (λ ys. take i rows ++ ys) (sym (at_drop_more (replaced p w) rows i free_row h)) ∙ b.later w)));
-          }
+  -- where none is found, none passes
+  pub missing : (rows : List HoldRow) → None ≡ position p rows → list_any p rows ≡ false
+  missing rows e =
+      elim (cases_Bool (nat_lt (position_or_len p rows) (length rows))) [
+        | inl t ↦ absurd (let z : ◌≡◌ {A = Option ℕ} None (Some (position_or_len p rows)) = e ∙ by_test rows true t in cc)
+        | inr t ↦ list_any_by_position rows ∙ t
+      ]

@@ -11,7 +11,7 @@ use Rattle.book.proofs.Moves.{allowed}
 use Rattle.books.specs.declared.posting.Posting.{Posting}
 use Rattle.books.specs.Laying.{cell}
 use Rattle.books.specs.Postings.{blank, posted, latest, standing, journalled, Sound}
-use Rattle.books.specs.InRange.{value_or_or_else}
+use Rattle.books.specs.InRange.{unwrap_or-option_or}
 use Rattle.books.proofs.Latest.{latest_push}
 
 -- ── one posting more ──
@@ -40,7 +40,7 @@ module _ (A R n : ℕ) (xs : List ℕ) (ps : List Posting) (v : Movement) (ok : 
       let h = allowed (journalled A R n xs ps) v ok in
       let p = new v f h.apart in
       let more : unwrap_or (latest (ps ++ p ∷ []) a r) (cell A R xs a r) ≡ unwrap_or (posted p a r) (unwrap_or (latest ps a r) (cell A R xs a r)) =
-      ap (λ o. unwrap_or o (cell A R xs a r)) (latest_push ps p a r) ∙ value_or_or_else (posted p a r) (latest ps a r) (cell A R xs a r) in
+      ap (λ o. unwrap_or o (cell A R xs a r)) (latest_push ps p a r) ∙ unwrap_or-option_or (posted p a r) (latest ps a r) (cell A R xs a r) in
       more ∙ posted_shifts v f h.apart a r
 
   pub journalled_moved : (sender receiver : ℕ) → sender ≡ f v.from v.resource - v.quantity → receiver ≡ f v.to v.resource + v.quantity → journalled A R (n - 1) xs (ps ++ record { from = v.from; to = v.to; resource = v.resource; sender = sender; receiver = receiver } ∷ []) ≡ moved (journalled A R n xs ps) v
@@ -52,7 +52,7 @@ module _ (A R n : ℕ) (xs : List ℕ) (ps : List Posting) (v : Movement) (ok : 
   pub new_sound : (sender receiver : ℕ) → Lawful (journalled A R n xs ps) → sender ≡ f v.from v.resource - v.quantity → receiver ≡ f v.to v.resource + v.quantity → Sound A R (record { from = v.from; to = v.to; resource = v.resource; sender = sender; receiver = receiver })
   new_sound sender receiver l p q =
       let h = allowed (journalled A R n xs ps) v ok in
-      (h.from_in, h.to_in, h.resource_in, omega (arith, l.amounts v.from v.resource), omega (arith, h.room))
+      record { from_in = h.from_in; to_in = h.to_in; resource_in = h.resource_in; sender_low = omega (arith, l.amounts v.from v.resource); receiver_low = omega (arith, h.room) }
 
 -- the postings stay sound
 pub sound_more : (A R : ℕ) (ps : List Posting) (used : ℕ) (p : Posting) → used < length ps → ((k : ℕ) → k < used → Sound A R (get_or ps k blank)) → Sound A R p → (k : ℕ) → k < used + 1 → Sound A R (get_or (set ps used p) k blank)

@@ -3,20 +3,12 @@ use Rattle.std.specs.Prelude.{ℕ, List}
 use Rattle.book.specs.declared.movement.Movement.{Movement}
 use Rattle.book.specs.Meaning.{Meaning}
 use Rattle.books.specs.declared.grid.Grid.{Grid}
-use Rattle.books.specs.Laying.{Fit, cell, opened, amounts_after}
+use Rattle.books.specs.Laying.{opened, amounts_after}
 
 -- the book over what lies in the lent memory now
 abbrev pub grid_meaning : Grid → Meaning
-grid_meaning g = opened g.accounts g.resources g.left g.amounts.now
-
--- the lent memory is fit
-abbrev pub grid_fit : (g : Grid) → Fit g.accounts g.resources g.amounts.now
-grid_fit g = record { sizes = g.sizes; whole = g.whole; low = g.low }
-
--- the amount of an account in a resource, 0 outside
-abbrev pub grid_amount : Grid → ℕ → ℕ → ℕ
-grid_amount g = cell g.accounts g.resources g.amounts.now
+grid_meaning g = opened g.laid.accounts g.laid.resources g.left g.laid.amounts.now
 
 -- the lent memory after a movement
 abbrev pub grid_memory : Grid → Movement → List ℕ
-grid_memory g v = amounts_after g.accounts g.resources g.left v g.amounts.now
+grid_memory g v = amounts_after g.laid.accounts g.laid.resources g.left v g.laid.amounts.now

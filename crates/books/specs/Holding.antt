@@ -1,11 +1,12 @@
 -- What the holdback layer makes of the book below.
 use Rattle.std.specs.Prelude.{ℕ, ◌+◌, min, Bool, cond, not, ◌&&◌, List, [], ◌∷◌, is_ok, Result, ◌==◌, nat_lt}
+use Rattle.std.specs.List.{list_any}
 use Rattle.book.specs.declared.refusal.BookRefusal.{BookRefusal}
 use Rattle.book.specs.declared.refusal.BookRefusal.TheVariants.{Outside, Quantity, NoRow}
 use Rattle.book.specs.Refusals.{first_refusal}
 use Rattle.book.specs.Meaning.{Meaning, within, limit}
 use Rattle.books.specs.declared.row.HoldRow.{HoldRow}
-use Rattle.books.specs.Rows.{named, free, row_of, any, replaced, held}
+use Rattle.books.specs.Rows.{named, free, row_of, replaced, held}
 
 -- the book below with what the rows hold back on top, capped at the limit
 abbrev pub layered : Meaning → List HoldRow → Meaning
@@ -16,7 +17,7 @@ layered m rows =
 
 -- a row would be needed, and none is free
 abbrev pub crowded : List HoldRow → ℕ → ℕ → ℕ → Bool
-crowded rows a r q = not (q == 0) && (not (any (named a r) rows) && not (any free rows))
+crowded rows a r q = not (q == 0) && (not (list_any (named a r) rows) && not (list_any free rows))
 
 -- the answer to holding back q of account a in resource r
 abbrev pub hold_verdict : Meaning → List HoldRow → ℕ → ℕ → ℕ → Result (Unit {0}) BookRefusal
@@ -26,7 +27,7 @@ hold_verdict m rows a r q =
 -- the row that names them is replaced, or else, where something is to be held back, a free row is taken
 abbrev pub rows_with : List HoldRow → ℕ → ℕ → ℕ → List HoldRow
 rows_with rows a r q =
-    cond (any (named a r) rows) (replaced (named a r) (row_of a r q) rows) (cond (q == 0) rows (replaced free (row_of a r q) rows))
+    cond (list_any (named a r) rows) (replaced (named a r) (row_of a r q) rows) (cond (q == 0) rows (replaced free (row_of a r q) rows))
 
 abbrev pub rows_after : Meaning → List HoldRow → ℕ → ℕ → ℕ → List HoldRow
 rows_after m rows a r q = cond (is_ok (hold_verdict m rows a r q)) (rows_with rows a r q) rows

@@ -1,5 +1,6 @@
 -- Amounts that lie in memory row by row, and the book that is opened over them.
-use Rattle.std.specs.Prelude.{◌≡◌, ℕ, ◌+◌, ◌-◌, ◌*◌, ◌<◌, ◌≤◌, Bool, true, cond, not, ◌&&◌, List, [], ◌∷◌, length, is_ok, Ok, Err, Result, ◌==◌, nat_le, nat_lt, slice_index, slice_set}
+use Rattle.std.specs.Prelude.{◌≡◌, ℕ, ◌+◌, ◌-◌, ◌*◌, ◌<◌, ◌≤◌, Bool, cond, not, ◌&&◌, List, [], ◌∷◌, length, is_ok, Ok, Err, Result, Some, None, Option, ◌==◌, nat_le, nat_lt, slice_index, slice_set}
+use Rattle.std.specs.List.{list_all}
 use Rattle.book.specs.declared.movement.Movement.{Movement}
 use Rattle.book.specs.declared.refusal.BookRefusal.{BookRefusal}
 use Rattle.book.specs.declared.refusal.BookRefusal.TheVariants.{Outside, Unfit}
@@ -14,9 +15,8 @@ abbrev pub sized : ℕ → ℕ → Bool
 sized A R = nat_le 2 A && (nat_le A 64 && (nat_le 4 R && nat_le R 128))
 
 -- no amount over the limit
-unfoldable pub all_low : List ℕ → Bool
-all_low [] = true
-all_low (x ∷ xs) = nat_le x limit && all_low xs
+abbrev pub all_low : List ℕ → Bool
+all_low xs = list_all (λ x. nat_le x limit) xs
 
 -- A accounts with R amounts each
 abbrev pub fits : ℕ → ℕ → List ℕ → Bool
@@ -28,14 +28,17 @@ checked A R xs = cond (fits A R xs) (Ok tt) (Err Unfit)
 
 -- memory that a book of A accounts and R resources can be laid over
 pub record Fit (A R : ℕ) (xs : List ℕ) : Type 0 where
-  pub sizes : (2 ≤ A) × (A ≤ 64) × (4 ≤ R) × (R ≤ 128)
+  pub accounts_low : 2 ≤ A
+  pub accounts_high : A ≤ 64
+  pub resources_low : 4 ≤ R
+  pub resources_high : R ≤ 128
   pub whole : length xs ≡ A * R
   pub low : (k : ℕ) → k < length xs → slice_index xs k ≤ limit
 
--- where the check passed, the memory is fit
-abbrev pub Passed : Result (Unit {0}) BookRefusal → ℕ → ℕ → List ℕ → Type 0
-Passed (Ok _) A R xs = Fit A R xs
-Passed (Err _) A R xs = Unit {0}
+-- whether something was made or refused, without what was made
+abbrev pub outcome : {X : Type 0} → Result X BookRefusal → Result (Unit {0}) BookRefusal
+outcome (Ok _) = Ok tt
+outcome (Err e) = Err e
 
 -- ── stating an amount ──
 
@@ -45,9 +48,17 @@ stated_verdict A R n a r q = first_refusal ((not (nat_lt a A && (nat_lt r R && n
 
 -- ── the book that is opened ──
 
+-- an account and a resource that there are
+abbrev pub inside : ℕ → ℕ → ℕ → ℕ → Bool
+inside A R a r = nat_lt a A && nat_lt r R
+
+-- what stands at account a and resource r, nothing outside
+abbrev pub seen_in : ℕ → ℕ → List ℕ → ℕ → ℕ → Option ℕ
+seen_in A R xs a r = cond (inside A R a r) (Some (slice_index xs (a * R + r))) None
+
 -- what stands at account a and resource r, 0 outside
 abbrev pub cell : ℕ → ℕ → List ℕ → ℕ → ℕ → ℕ
-cell A R xs a r = cond (nat_lt a A && nat_lt r R) (slice_index xs (a * R + r)) 0
+cell A R xs a r = cond (inside A R a r) (slice_index xs (a * R + r)) 0
 
 -- the book over amounts, with nothing held back and so many movements left
 abbrev pub opened : ℕ → ℕ → ℕ → List ℕ → Meaning

@@ -1,29 +1,20 @@
-//! Amounts that lie in memory row by row, at account × resources + resource.
-ghost use Rattle.std.specs.Prelude.{◌≡◌, ℕ, ◌+◌, ◌*◌, ◌<◌, ◌≤◌, true, length, is_ok, if◌then◌else◌, slice_index, slice_set};
-ghost use Rattle.book.specs.Meaning.{limit};
-ghost use Rattle.books.specs.Laying.{cell, checked, all_low, Passed, stated_verdict};
+//! Memory that a book can be laid over, and amounts that are stated in it.
+ghost use Rattle.std.specs.Prelude.{◌≡◌, ◌+◌, ◌*◌, length, is_ok, IfOk, if◌then◌else◌, slice_set};
+ghost use Rattle.books.specs.Laying.{Fit, all_low, checked, stated_verdict};
 
-use book::BookRefusal;
-
-const LIMIT: u64 = 1_000_000_000_000_000;
+use book::{BookRefusal, LIMIT};
 
 /// Whether no amount is over the limit.
 fn all_low(amounts: &[u64]) -> bool
-    ensures answer { result ≡ all_low amounts.now }
-    ensures each { result ≡ true → (k : ℕ) → k < length amounts.now → slice_index amounts.now k ≤ limit }
+    ensures { result ≡ all_low amounts.now }
 {
-    for i in 0..amounts.len() {
-        if amounts[i] > LIMIT {
-            return false;
-        }
-    }
-    true
+    amounts.iter().all(|amount| *amount <= LIMIT)
 }
 
 /// Whether a book of so many accounts and resources can be laid over the amounts.
 pub fn check(accounts: u32, resources: u32, amounts: &[u64]) -> Result<(), BookRefusal>
     ensures answer { result ≡ checked accounts resources amounts.now }
-    ensures fit { Passed result accounts resources amounts.now }
+    ensures fit { IfOk result (λ _. Fit accounts resources amounts.now) }
 {
     if accounts < 2 || accounts > 64 || resources < 4 || resources > 128 {
         return Err(BookRefusal::Unfit);
@@ -61,21 +52,4 @@ pub fn state_amount(
     }
     amounts[place] = quantity;
     Ok(())
-}
-
-/// The amount of an account in a resource, 0 outside.
-pub(crate) fn cell_of(
-    accounts: u32,
-    resources: u32,
-    amounts: &[u64],
-    account: u32,
-    resource: u32,
-) -> u64
-    requires { (accounts ≤ 64) × ((resources ≤ 128) × (length amounts.now ≡ accounts * resources)) }
-    ensures { result ≡ cell accounts resources amounts.now account resource }
-{
-    if account >= accounts || resource >= resources {
-        return 0;
-    }
-    amounts[(account * resources + resource) as usize]
 }

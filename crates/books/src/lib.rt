@@ -2,11 +2,9 @@
 #![tactic(auto)]
 
 mod grid;
-mod grid_book;
 mod holdback;
-mod holdback_book;
 mod journal;
-mod journal_book;
+mod laid;
 mod laying;
 mod posting;
 mod row;
@@ -14,5 +12,6 @@ mod row;
 pub use grid::Grid;
 pub use holdback::Holdback;
 pub use journal::Journal;
+pub use laid::{Amounts, Laid};
 pub use laying::{check, state_amount};
 pub use posting::{BLANK, Posting};

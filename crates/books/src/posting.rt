@@ -1,6 +1,6 @@
 //! A posting, and what it says of an account.
-ghost use Rattle.std.specs.Prelude.{◌≡◌, ◌<◌, ◌≤◌, length, take};
-ghost use Rattle.books.specs.Postings.{posted, latest, Told};
+ghost use Rattle.std.specs.Prelude.{◌≡◌};
+ghost use Rattle.books.specs.Postings.{posted, latest};
 
 /// A movement that was made, with both new amounts.
 #[derive(Clone, Copy)]
@@ -40,23 +40,18 @@ impl Posting {
     }
 }
 
-/// What the posting at `k` says of an account and a resource.
-fn tell(postings: &[Posting], k: usize, account: u32, resource: u32) -> Option<u64>
-    requires { k < length postings.now }
-    ensures { Told postings.now k account resource result }
+/// What the newest posting says that names an account and a resource.
+#[tactic(auto, using(crate::proofs::Latest::latest_push))]
+pub(crate) fn newest(postings: &[Posting], account: u32, resource: u32) -> Option<u64>
+    ensures { result ≡ latest postings.now account resource }
 {
-    postings[k].amount(account, resource)
-}
-
-/// What the newest of the first `used` postings says that names an account and a resource.
-pub(crate) fn newest(postings: &[Posting], used: usize, account: u32, resource: u32) -> Option<u64>
-    requires { used ≤ length postings.now }
-    ensures { result ≡ latest (take used postings.now) account resource }
-{
-    for k in (0..used).rev() {
-        if let Some(amount) = tell(postings, k, account, resource) {
+    // As `iter().rev().find_map(..)`, what stays open is that the answer is that of the newest posting that has one.
+    let mut rest = postings;
+    while let Some((last, before)) = rest.split_last() {
+        if let Some(amount) = last.amount(account, resource) {
             return Some(amount);
         }
+        rest = before;
     }
     None
 }

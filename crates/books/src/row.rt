@@ -1,6 +1,6 @@
 //! A row of the holdback layer.
-ghost use Rattle.std.specs.Prelude.{◌≡◌};
-ghost use Rattle.books.specs.Rows.{named, row_of, seeks, held, Placed};
+ghost use Rattle.std.specs.Prelude.{◌≡◌, position};
+ghost use Rattle.books.specs.Rows.{named, free, row_of, held};
 
 /// What is held back of an account in a resource; a row of quantity 0 is free.
 #[derive(Clone, Copy)]
@@ -16,66 +16,54 @@ pub(crate) const FREE: HoldRow = HoldRow {
     quantity: 0,
 };
 
-/// The row that is looked for.
-#[derive(Clone, Copy)]
-pub(crate) enum Seek {
-    Naming,
-    Free,
-}
-
 impl HoldRow {
+    /// The row that a quantity is written as: a free one where nothing is held back.
+    pub(crate) fn of(account: u32, resource: u32, quantity: u64) -> HoldRow
+        ensures { result ≡ row_of account resource quantity }
+    {
+        if quantity == 0 {
+            return FREE;
+        }
+        HoldRow {
+            account,
+            resource,
+            quantity,
+        }
+    }
+
     /// Whether the row holds back of the account in the resource.
-    fn names(&self, account: u32, resource: u32) -> bool
+    pub(crate) fn names(&self, account: u32, resource: u32) -> bool
         ensures { result ≡ named account resource self.now }
     {
         self.quantity > 0 && self.account == account && self.resource == resource
     }
 
-    pub(crate) fn is_sought(&self, seek: Seek, account: u32, resource: u32) -> bool
-        ensures { result ≡ seeks seek account resource self.now }
+    pub(crate) fn is_free(&self) -> bool
+        ensures { result ≡ free self.now }
     {
-        match seek {
-            Seek::Naming => self.names(account, resource),
-            Seek::Free => self.quantity == 0,
-        }
-    }
-
-    /// Sets the row, or frees it where nothing is held back.
-    pub(crate) fn set(&mut self, account: u32, resource: u32, quantity: u64)
-        ensures { self.new ≡ row_of account resource quantity }
-    {
-        *self = if quantity == 0 {
-            FREE
-        } else {
-            HoldRow {
-                account,
-                resource,
-                quantity,
-            }
-        };
+        self.quantity == 0
     }
 }
 
-/// The first row that is sought.
-pub(crate) fn place(rows: &[HoldRow], seek: Seek, account: u32, resource: u32) -> Option<usize>
-    ensures { Placed (seeks seek account resource) rows.now result }
+/// The place of the first row that holds back of an account in a resource.
+pub(crate) fn naming_place(rows: &[HoldRow], account: u32, resource: u32) -> Option<usize>
+    ensures { result ≡ position (named account resource) rows.now }
 {
-    for i in 0..rows.len() {
-        if rows[i].is_sought(seek, account, resource) {
-            return Some(i);
-        }
-    }
-    None
+    rows.iter().position(|row| row.names(account, resource))
+}
+
+/// The place of the first free row.
+pub(crate) fn free_place(rows: &[HoldRow]) -> Option<usize>
+    ensures { result ≡ position free rows.now }
+{
+    rows.iter().position(|row| row.is_free())
 }
 
 /// What the rows hold back of an account in a resource.
 pub(crate) fn held_in(rows: &[HoldRow], account: u32, resource: u32) -> u64
     ensures { result ≡ held rows.now account resource }
 {
-    for i in 0..rows.len() {
-        if rows[i].names(account, resource) {
-            return rows[i].quantity;
-        }
-    }
-    0
+    rows.iter()
+        .find(|row| row.names(account, resource))
+        .map_or(0, |row| row.quantity)
 }

@@ -1,6 +1,6 @@
 -- An amend, as it runs, is as it is defined.
-use Rattle.std.proofs.Common.{◌≡◌, ℕ, ◌+◌, ◌<◌, ◌≤◌, true, cond, not, List, [], ◌∷◌, ◌++◌, map, length, get_or, take, drop, set, is_ok, Some, None, Ok, Err, Option, Result, sym, refl, ap, ◌∙◌, subst, arith}
-use Rattle.std.specs.Result.{result_map_both}
+use Rattle.std.proofs.Common.{◌≡◌, ℕ, ◌+◌, ◌<◌, ◌≤◌, true, cond, not, List, [], ◌∷◌, ◌++◌, map, length, get_or, take, drop, set, is_ok, Some, None, Ok, Err, Option, Result, sym, refl, ap, ◌∙◌, arith}
+use Rattle.std.specs.Result.{result_map_both, IsErrAnd}
 use Rattle.std.proofs.lemmas.List.{length-set}
 use Rattle.std.proofs.lemmas.Bool.{both_ways}
 use Rattle.book.specs.Lists.{run}
@@ -29,14 +29,14 @@ use Rattle.law.specs.Calls.{amend, or_plan, amend_refusals, amend_plan, planned}
 use Rattle.law.specs.Outcomes.{outcome, passed}
 use Rattle.calls.specs.Amending.{amendable, amend_at, amend_verdict, amended_at, amended_rows}
 use Rattle.calls.specs.Clauses.{verdict_by}
-use Rattle.calls.proofs.Running.{broken_outcome, sound_outcome, deals_used, lines_used, no_slips_pass}
+use Rattle.calls.proofs.Running.{goes_on, err_is, broken_outcome, sound_outcome, deals_used, lines_used, no_slips_pass}
 use Rattle.calls.proofs.DayEnds.{Ran, ran, found_is}
 use Rattle.calls.proofs.Places.{At, place_at, place_out, put_at}
 
 pub amend_broken : (w : World) (n rate due accounts resources : ℕ) → accounts ≡ w.book.accounts → resources ≡ w.book.resources
-    → (f : Fault) → Some f ≡ fault_of accounts resources w.head w.deals w.lines → Ran verdict_by (amend n rate due) w (Err (Broken f)) w
-amend_broken w n rate due accounts resources a b f e =
-    ran verdict_by (amend n rate due) w w _ (Err (Broken f)) (broken_outcome (amend n rate due) w f (found_is w accounts resources a b (Some f) e)) refl refl
+    → (f : Fault) → Some f ≡ fault_of accounts resources w.head w.deals w.lines → (r : Result (Unit {0}) Refusal) → IsErrAnd r (λ x. x ≡ Broken f) → Ran verdict_by (amend n rate due) w r w
+amend_broken w n rate due accounts resources a b f e r is =
+    ran verdict_by (amend n rate due) w w r (Err (Broken f)) (broken_outcome (amend n rate due) w f (found_is w accounts resources a b (Some f) e)) (err_is r (Broken f) is) refl
 
 module _ (w : World) (n rate due : ℕ) (s : Sound w.book.accounts w.book.resources w.head w.deals w.lines) where
   abbrev us : List Deal
@@ -131,12 +131,12 @@ module _ (w : World) (n rate due : ℕ) (s : Sound w.book.accounts w.book.resour
           (ap (λ t. after' (cond (is_ok t) (amended_at w.head w.deals rate due o) w.deals)) v ∙ ap (λ t. after' (amended_at w.head w.deals rate due t)) h.1 ∙ sym (amend_world h.0 p))
 
 pub amend_told : (w : World) (n rate due accounts resources : ℕ) → accounts ≡ w.book.accounts → resources ≡ w.book.resources → None ≡ fault_of accounts resources w.head w.deals w.lines
-    → (r : Result (Unit {0}) Refusal) → r ≡ amend_verdict w.head w.deals rate due (place_of n (deal_numbers w.head w.deals))
-    → (ds : List Deal) → ds ≡ amended_rows w.head w.deals rate due (place_of n (deal_numbers w.head w.deals))
+    → (o : Option ℕ) → o ≡ place_of n (deal_numbers w.head w.deals)
+    → (r : Result (Unit {0}) Refusal) → r ≡ amend_verdict w.head w.deals rate due o → (ds : List Deal) → ds ≡ amended_rows w.head w.deals rate due o
     → Ran verdict_by (amend n rate due) w r (record { head = w.head; deals = ds; lines = w.lines; book = w.book })
-amend_told w n rate due accounts resources a b f r e ds d =
+amend_told w n rate due accounts resources a b f o at r e ds d =
     let none' = found_is w accounts resources a b None f in
     let s = sound_from w.book.accounts w.book.resources w.head w.deals w.lines none' in
-    subst (λ x. Ran verdict_by (amend n rate due) w x (record { head = w.head; deals = ds; lines = w.lines; book = w.book })) (sym e)
-    (subst (λ x. Ran verdict_by (amend n rate due) w (amend_verdict w.head w.deals rate due (place_of n (deal_numbers w.head w.deals))) (record { head = w.head; deals = x; lines = w.lines; book = w.book })) (sym d)
-    (amend_ran w n rate due s none' (place_of n (deal_numbers w.head w.deals)) refl))
+    let k = amend_ran w n rate due s none' o (sym at) in
+    let world = (λ i. record { head = w.head; deals = d i; lines = w.lines; book = w.book }) ∙ k.world in
+    record { answer = e ∙ k.answer; world = world; law = goes_on (amend n rate due) w _ world }

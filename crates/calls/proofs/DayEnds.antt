@@ -10,7 +10,7 @@ use Rattle.memory.proofs.Sounds.{sound_from}
 use Rattle.sides.specs.declared.day_end.DaySheet.{DaySheet}
 use Rattle.sides.specs.declared.refusal.Refusal.{Refusal}
 use Rattle.sides.specs.declared.refusal.Refusal.TheVariants.{WrongPhase}
-use Rattle.std.specs.Result.{result_map_both}
+use Rattle.std.specs.Result.{result_map_both, result_err}
 use Rattle.book.specs.Refusals.{first_refusal}
 use Rattle.sides.specs.DayEnd.{in_day, in_phase, owed, open_verdict, opening, opened, lifted}
 use Rattle.law.specs.World.{World, state_of}
@@ -53,11 +53,11 @@ ran view c w v r q e a b =
 abbrev pub with_head : World → Head → World
 with_head w h = record { head = h; deals = w.deals; lines = w.lines; book = w.book }
 
-pub open_ran : (w : World) (found : Option Fault) → found ≡ fault_of w.book.accounts w.book.resources w.head w.deals w.lines
-    → Ran sheet_by open_day_end w (or_broken_fault found (opening w.head)) (with_head w (unless_broken found (opened w.head) w.head))
+pub open_ran : (w : World) (checked : Result (Unit {0}) Fault) → result_err checked ≡ fault_of w.book.accounts w.book.resources w.head w.deals w.lines
+    → Ran sheet_by open_day_end w (or_broken_fault checked (opening w.head)) (with_head w (unless_broken checked (opened w.head) w.head))
 unfolding open_plan
-open_ran w (Some f) e = ran sheet_by open_day_end w w _ (Err _) (broken_outcome open_day_end w f e) refl refl
-open_ran w None e = go w.head.phase refl
+open_ran w (Err f) e = ran sheet_by open_day_end w w _ (Err _) (broken_outcome open_day_end w f e) refl refl
+open_ran w (Ok u) e = go w.head.phase refl
   where
     s : Sound w.book.accounts w.book.resources w.head w.deals w.lines
     s = sound_from w.book.accounts w.book.resources w.head w.deals w.lines e
@@ -81,13 +81,12 @@ open_ran w None e = go w.head.phase refl
         ran sheet_by open_day_end w _ _ (Ok plan) (out ∙ ap (λ r. passed 0 (state_of w) (or_plan r plan)) v ∙ ap (result_map_both (λ _. plan) (λ x. x)) ok) (ap (λ r. result_map_both (λ _. owed) (λ x. x) r) v)
         (ap (λ r. with_head w (cond (is_ok r) (in_phase DayEnd w.head) w.head)) v ∙ sym (phase_world w s DayEnd w.head.date false))
 
--- with what was found, answered and left
-pub open_told : (w : World) (accounts resources : ℕ) → accounts ≡ w.book.accounts → resources ≡ w.book.resources
-    → (found : Option Fault) → found ≡ fault_of accounts resources w.head w.deals w.lines
-    → (r : Result DaySheet Refusal) → r ≡ or_broken_fault found (opening w.head) → (h : Head) → h ≡ unless_broken found (opened w.head) w.head → Ran sheet_by open_day_end w r (with_head w h)
-open_told w accounts resources a b found f r e h c =
-    subst (λ x. Ran sheet_by open_day_end w x (with_head w h)) (sym e) (subst (λ x. Ran sheet_by open_day_end w (or_broken_fault found (opening w.head)) (with_head w x)) (sym c)
-    (open_ran w found (f ∙ ap (λ x. fault_of x resources w.head w.deals w.lines) a ∙ ap (λ x. fault_of w.book.accounts x w.head w.deals w.lines) b)))
+-- with what was checked, answered and left
+pub open_told : (w : World) (checked : Result (Unit {0}) Fault) → result_err checked ≡ fault_of w.book.accounts w.book.resources w.head w.deals w.lines
+    → (r : Result DaySheet Refusal) → r ≡ or_broken_fault checked (opening w.head) → (h : Head) → h ≡ unless_broken checked (opened w.head) w.head → Ran sheet_by open_day_end w r (with_head w h)
+open_told w checked f r e h c =
+    subst (λ x. Ran sheet_by open_day_end w x (with_head w h)) (sym e) (subst (λ x. Ran sheet_by open_day_end w (or_broken_fault checked (opening w.head)) (with_head w x)) (sym c)
+    (open_ran w checked f))
 
 -- a fault that was looked for with the book's numbers
 pub found_is : (w : World) (accounts resources : ℕ) → accounts ≡ w.book.accounts → resources ≡ w.book.resources → (found : Option Fault) → found ≡ fault_of accounts resources w.head w.deals w.lines
@@ -97,21 +96,21 @@ found_is w accounts resources a b found f =
 
 -- ── lift ──
 
-lift_ran : (w : World) (found : Option Fault) → found ≡ fault_of w.book.accounts w.book.resources w.head w.deals w.lines
-    → Ran verdict_by lift_day_end w (or_broken_fault found (Ok tt)) (with_head w (unless_broken found (lifted w.head) w.head))
+lift_ran : (w : World) (checked : Result (Unit {0}) Fault) → result_err checked ≡ fault_of w.book.accounts w.book.resources w.head w.deals w.lines
+    → Ran verdict_by lift_day_end w (or_broken_fault checked (Ok tt)) (with_head w (unless_broken checked (lifted w.head) w.head))
 unfolding lift_plan
-lift_ran w (Some f) e = ran verdict_by lift_day_end w w _ (Err _) (broken_outcome lift_day_end w f e) refl refl
-lift_ran w None e =
+lift_ran w (Err f) e = ran verdict_by lift_day_end w w _ (Err _) (broken_outcome lift_day_end w f e) refl refl
+lift_ran w (Ok u) e =
     let s = sound_from w.book.accounts w.book.resources w.head w.deals w.lines e in
     let plan : Plan = record { date = w.head.date; phase = Day; change = none; slips = []; sharing = asis; alert = false } in
     let ok = no_slips_pass w s 0 plan refl refl (omega (arith, deals_used w s)) in
     ran verdict_by lift_day_end w _ _ (Ok plan) (sound_outcome lift_day_end w e refl ∙ ap (result_map_both (λ _. plan) (λ x. x)) ok) refl (sym (phase_world w s Day w.head.date false))
 
-pub lift_told : (w : World) (accounts resources : ℕ) → accounts ≡ w.book.accounts → resources ≡ w.book.resources → (found : Option Fault) → found ≡ fault_of accounts resources w.head w.deals w.lines
-    → (r : Result (Unit {0}) Refusal) → r ≡ or_broken_fault found (Ok tt) → (h : Head) → h ≡ unless_broken found (lifted w.head) w.head → Ran verdict_by lift_day_end w r (with_head w h)
-lift_told w accounts resources a b found f r e h c =
-    subst (λ x. Ran verdict_by lift_day_end w x (with_head w h)) (sym e) (subst (λ x. Ran verdict_by lift_day_end w (or_broken_fault found (Ok tt)) (with_head w x)) (sym c)
-    (lift_ran w found (found_is w accounts resources a b found f)))
+pub lift_told : (w : World) (checked : Result (Unit {0}) Fault) → result_err checked ≡ fault_of w.book.accounts w.book.resources w.head w.deals w.lines
+    → (r : Result (Unit {0}) Refusal) → r ≡ or_broken_fault checked (Ok tt) → (h : Head) → h ≡ unless_broken checked (lifted w.head) w.head → Ran verdict_by lift_day_end w r (with_head w h)
+lift_told w checked f r e h c =
+    subst (λ x. Ran verdict_by lift_day_end w x (with_head w h)) (sym e) (subst (λ x. Ran verdict_by lift_day_end w (or_broken_fault checked (Ok tt)) (with_head w x)) (sym c)
+    (lift_ran w checked f))
 
 -- ── close ──
 

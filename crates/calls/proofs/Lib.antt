@@ -1,6 +1,5 @@
 pub mod Running
 pub mod DayEnds
-pub mod Growing
 pub mod Places
 pub mod Amends
 pub mod Standing

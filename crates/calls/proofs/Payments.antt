@@ -1,6 +1,6 @@
 -- A payment, as it runs, is as it is defined.
 use Rattle.std.proofs.Common.{◌≡◌, ℕ, ◌+◌, ◌-◌, ◌<◌, ◌≤◌, true, cond, not, ltb, List, [], ◌∷◌, map, length, get_or, is_ok, Some, None, Ok, Err, Option, Result, sym, refl, ap, ◌∙◌, append-nil, arith}
-use Rattle.std.specs.Result.{result_map_both}
+use Rattle.std.specs.Result.{result_map_both, IsErrAnd}
 use Rattle.std.proofs.lemmas.Bool.{both_ways}
 use Rattle.book.specs.Lists.{run}
 use Rattle.book.specs.Meaning.{Meaning}
@@ -35,7 +35,7 @@ use Rattle.law.proofs.Cashing.{cash_slip, cash_lines}
 use Rattle.law.proofs.Totals.{by_test}
 use Rattle.calls.specs.Clauses.{GoesOn, count_by}
 use Rattle.calls.specs.Paying.{interest_slips, pay_at, pay_verdict, paid_at, row_of, pay_answer, pay_head, pay_deals, pay_list, pay_book}
-use Rattle.calls.proofs.Running.{goes_on, broken_outcome, sound_outcome, deals_used, lines_used, slips_pass}
+use Rattle.calls.proofs.Running.{goes_on, err_is, broken_outcome, sound_outcome, deals_used, lines_used, slips_pass}
 use Rattle.calls.proofs.DayEnds.{found_is}
 use Rattle.calls.proofs.Places.{At, place_at, place_out}
 
@@ -52,9 +52,9 @@ wrote c w v r before list q e a b l =
     record { answer = a ∙ ap count_by (sym e); world = world; slips = l ∙ ap (λ x. listed (slips_by x) before) (sym e); law = goes_on c w v world }
 
 pub pay_broken : (w : World) (n : ℕ) (list : List Slip) (accounts resources : ℕ) → accounts ≡ w.book.accounts → resources ≡ w.book.resources
-    → (f : Fault) → Some f ≡ fault_of accounts resources w.head w.deals w.lines → Wrote (pay (length list) n) w (Err (Broken f)) w list list
-pay_broken w n list accounts resources a b f e =
-    wrote (pay (length list) n) w w _ list list (Err (Broken f)) (broken_outcome (pay (length list) n) w f (found_is w accounts resources a b (Some f) e)) refl refl refl
+    → (f : Fault) → Some f ≡ fault_of accounts resources w.head w.deals w.lines → (r : Result ℕ Refusal) → IsErrAnd r (λ x. x ≡ Broken f) → Wrote (pay (length list) n) w r w list list
+pay_broken w n list accounts resources a b f e r is =
+    wrote (pay (length list) n) w w r list list (Err (Broken f)) (broken_outcome (pay (length list) n) w f (found_is w accounts resources a b (Some f) e)) (err_is r (Broken f) is) refl refl
 
 -- cash issues no number
 cash_issues : (d : Deal) → issues (interest_slips d) ≡ 0
@@ -183,15 +183,13 @@ module _ (w : World) (n : ℕ) (list : List Slip) (s : Sound w.book.accounts w.b
             (ap (λ t. cond (is_ok t) (listed xs list) list) v ∙ ap (λ ys. listed ys list) (sym same))
 
 pub pay_told : (w : World) (n : ℕ) (list after'' : List Slip) (accounts resources : ℕ) → accounts ≡ w.book.accounts → resources ≡ w.book.resources → None ≡ fault_of accounts resources w.head w.deals w.lines
-    → (r : Result ℕ Refusal) → r ≡ pay_answer w.head w.deals w.lines w.book list n (place_of n (deal_numbers w.head w.deals))
-    → (h : Head) → h ≡ pay_head w.head w.deals w.lines w.book list n (place_of n (deal_numbers w.head w.deals))
-    → (ds : List Deal) → ds ≡ pay_deals w.head w.deals w.lines w.book list n (place_of n (deal_numbers w.head w.deals))
-    → after'' ≡ pay_list w.head w.deals w.lines w.book list n (place_of n (deal_numbers w.head w.deals))
-    → (m : Meaning) → m ≡ pay_book w.head w.deals w.lines w.book list n (place_of n (deal_numbers w.head w.deals))
+    → (o : Option ℕ) → o ≡ place_of n (deal_numbers w.head w.deals) → (r : Result ℕ Refusal) → r ≡ pay_answer w.head w.deals w.lines w.book list n o
+    → (h : Head) → h ≡ pay_head w.head w.deals w.lines w.book list n o → (ds : List Deal) → ds ≡ pay_deals w.head w.deals w.lines w.book list n o
+    → after'' ≡ pay_list w.head w.deals w.lines w.book list n o → (m : Meaning) → m ≡ pay_book w.head w.deals w.lines w.book list n o
     → Wrote (pay (length list) n) w r (record { head = h; deals = ds; lines = w.lines; book = m }) list after''
-pay_told w n list after'' accounts resources a b f r er h eh ds ed el m em =
+pay_told w n list after'' accounts resources a b f o at r er h eh ds ed el m em =
     let none' = found_is w accounts resources a b None f in
     let s = sound_from w.book.accounts w.book.resources w.head w.deals w.lines none' in
-    let k = pay_ran w n list s (place_of n (deal_numbers w.head w.deals)) refl none' in
+    let k = pay_ran w n list s o (sym at) none' in
     let world = (λ i. record { head = eh i; deals = ed i; lines = w.lines; book = em i }) ∙ k.world in
     record { answer = er ∙ k.answer; world = world; slips = el ∙ k.slips; law = goes_on (pay (length list) n) w _ world }

@@ -1,5 +1,7 @@
 -- What a call comes to over a sound register, and the law at its end.
 use Rattle.std.proofs.Common.{◌≡◌, ℕ, ◌+◌, ◌≤◌, Bool, true, false, cond, ◌||◌, ltb, [], ◌∷◌, length, Some, None, Ok, Err, Result, sym, refl, ap, ◌∙◌, subst, arith}
+use Rattle.std.specs.Result.{IsErrAnd}
+use Rattle.std.proofs.lemmas.Result.{err_from_is_err_and}
 use Rattle.std.proofs.lemmas.List.{length-take-le}
 use Rattle.std.proofs.lemmas.Bool.{le-ltb, or_from}
 use Rattle.book.specs.Lists.{run, refusal_from}
@@ -37,6 +39,10 @@ goes_on c w v e =
     }
 
 -- ── refusals ──
+
+-- a refusal, told by its error
+pub err_is : {X : Type 0} (r : Result X Refusal) (e : Refusal) → IsErrAnd r (λ x. x ≡ e) → r ≡ Err e
+err_is r e is = let x = err_from_is_err_and r is in x.1 ∙ ap Err x.2
 
 -- a call that is refused leaves all
 pub refused_leaves : (c : Call) (w : World) (e : Refusal) → outcome c w ≡ Err e → w ≡ after c w

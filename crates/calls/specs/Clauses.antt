@@ -1,5 +1,5 @@
 -- What the contracts of the calls cite.
-use Rattle.std.specs.Prelude.{ℕ, List, length, Some, None, Ok, Err, Option, Result}
+use Rattle.std.specs.Prelude.{ℕ, List, length, Ok, Err, Result}
 use Rattle.book.specs.Meaning.{Meaning}
 use Rattle.memory.specs.declared.place.Fault.{Fault}
 use Rattle.memory.specs.declared.row.Deal.{Deal}
@@ -44,14 +44,14 @@ count_by (Err e) = Err e
 
 -- ── where a rule is broken ──
 
-abbrev pub or_broken_fault : {X : Type 0} → Option Fault → Result X Refusal → Result X Refusal
-or_broken_fault (Some f) r = Err (Broken f)
-or_broken_fault None r = r
+abbrev pub or_broken_fault : {X : Type 0} → Result (Unit {0}) Fault → Result X Refusal → Result X Refusal
+or_broken_fault (Err f) r = Err (Broken f)
+or_broken_fault (Ok u) r = r
 
 -- all stays as it was
-abbrev pub unless_broken : {X : Type 0} → Option Fault → X → X → X
-unless_broken (Some f) x old = old
-unless_broken None x old = x
+abbrev pub unless_broken : {X : Type 0} → Result (Unit {0}) Fault → X → X → X
+unless_broken (Err f) x old = old
+unless_broken (Ok u) x old = x
 
 -- ── the law ──
 

@@ -1,13 +1,12 @@
 //! A deal's rate and return day replaced.
-ghost use Rattle.std.specs.Prelude.{◌≡◌, ◌≤◌, length};
-ghost use Rattle.memory.specs.Places.{Rising, place_of, deal_numbers};
+ghost use Rattle.std.specs.Prelude.{◌≡◌, ◌<◌, IfSome, length};
 ghost use Rattle.law.specs.Calls.{amend as amend_call};
 ghost use Rattle.law.specs.Outcomes.{outcome, after};
 ghost use Rattle.calls.specs.Amending.{amendable, amend_verdict, amended_rows};
 ghost use Rattle.calls.specs.Clauses.{lent, verdict_by, GoesOn};
 
 use book::Book;
-use memory::{Deal, Head, Line, Phase, fault, find_deal};
+use memory::{Deal, Head, Line, Phase, Register};
 use sides::Refusal;
 
 fn is_amendable(date: u16, rate: u32, due: u16) -> bool
@@ -16,24 +15,22 @@ fn is_amendable(date: u16, rate: u32, due: u16) -> bool
     rate <= 200_000 && date <= due && due - date <= 730
 }
 
-/// Over a register that breaks no rule.
-fn amend_sound(
+/// Replaces the rate and the return day of the deal that was found at `row`, if one was.
+fn amend_found(
     head: &Head,
     deals: &mut [Deal],
-    number: u32,
+    row: Option<usize>,
     rate: u32,
     due: u16,
 ) -> Result<(), Refusal>
-    requires { Rising (deal_numbers head.now deals.old) }
-    ensures answer { result ≡ amend_verdict head.now deals.old rate due (place_of number (deal_numbers head.now deals.old)) }
-    ensures deals { deals.new ≡ amended_rows head.now deals.old rate due (place_of number (deal_numbers head.now deals.old)) }
+    requires { IfSome row (λ i. i < length deals.old) }
+    ensures answer { result ≡ amend_verdict head.now deals.old rate due row }
+    ensures deals { deals.new ≡ amended_rows head.now deals.old rate due row }
 {
     if let Phase::DayEnd = head.phase {
         return Err(Refusal::WrongPhase);
     }
-    let Some(row) = find_deal(head, deals, number) else {
-        return Err(Refusal::NotStanding);
-    };
+    let row = row.ok_or(Refusal::NotStanding)?;
     if !is_amendable(head.date, rate, due) {
         return Err(Refusal::OutOfRange);
     }
@@ -58,8 +55,8 @@ pub fn amend<B: Book>(
     ensures world { lent head.now deals.new lines.now (B.Book.meaning book.now) ≡ after (amend_call number rate due) (lent head.now deals.old lines.now (B.Book.meaning book.now)) }
     ensures law { GoesOn (amend_call number rate due) (lent head.now deals.old lines.now (B.Book.meaning book.now)) (lent head.now deals.new lines.now (B.Book.meaning book.now)) }
 {
-    if let Some(broken) = fault(head, deals, lines, book.accounts(), book.resources()) {
-        return Err(Refusal::Broken(broken));
-    }
-    amend_sound(head, deals, number, rate, due)
+    let register = Register { head, deals, lines };
+    let checked = register.check(book.accounts(), book.resources())?;
+    let row = checked.find_deal(number);
+    amend_found(head, deals, row, rate, due)
 }

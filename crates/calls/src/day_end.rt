@@ -1,6 +1,8 @@
 //! The day end opened, closed and lifted.
-ghost use Rattle.std.specs.Prelude.{◌≡◌, ◌-◌, ◌≤◌, ◌++◌, map, length, take, drop, is_ok, if◌then◌else◌, Some, None, Ok, Err};
+ghost use Rattle.std.specs.Prelude.{◌≡◌, ◌-◌, ◌≤◌, ◌++◌, map, length, take, drop, is_ok, if◌then◌else◌, Ok};
+ghost use Rattle.std.specs.Result.{result_err};
 ghost use Rattle.memory.specs.Deals.{grown};
+ghost use Rattle.memory.specs.Sound.{fault_of};
 ghost use Rattle.sides.specs.DayEnd.{opening, opened, closing, closed, close_verdict, lifted};
 ghost use Rattle.law.specs.Calls.{open_day_end, close_day_end, lift_day_end};
 ghost use Rattle.law.specs.Outcomes.{outcome, after};
@@ -8,17 +10,24 @@ ghost use Rattle.calls.specs.Clauses.{lent, sheet_by, verdict_by, closed_by, Goe
 
 use crate::growth::accrue_all;
 use book::Book;
-use memory::{Deal, Fault, Head, Line, fault};
+use memory::{Deal, Fault, Head, Line, Register};
 use sides::{DaySheet, NotClosed, Refusal, close_day_end, lift_day_end, open_day_end};
 
-fn open_unbroken(head: &mut Head, found: Option<Fault>) -> Result<DaySheet, Refusal>
-    ensures answer { result ≡ or_broken_fault found (opening head.old) }
-    ensures change { head.new ≡ unless_broken found (opened head.old) head.old }
+/// Refuses by the first rule that the register breaks over the book. The answer borrows nothing,
+/// so the head may change after it.
+fn check<B: Book>(book: &B, register: Register) -> Result<(), Fault>
+    ensures { result_err result ≡ fault_of (B.Book.meaning book.now).accounts (B.Book.meaning book.now).resources register.entry.head.now register.entry.deals.now register.entry.lines.now }
 {
-    match found {
-        Some(broken) => Err(Refusal::Broken(broken)),
-        None => open_day_end(head),
-    }
+    register.check(book.accounts(), book.resources())?;
+    Ok(())
+}
+
+fn open_unbroken(head: &mut Head, checked: Result<(), Fault>) -> Result<DaySheet, Refusal>
+    ensures answer { result ≡ or_broken_fault checked (opening head.old) }
+    ensures change { head.new ≡ unless_broken checked (opened head.old) head.old }
+{
+    checked?;
+    open_day_end(head)
 }
 
 /// Opens the day end, and hands out the sheet that is owed at its close or lift.
@@ -32,18 +41,23 @@ pub fn open<B: Book>(
     ensures world { lent head.new deals.now lines.now (B.Book.meaning book.now) ≡ after open_day_end (lent head.old deals.now lines.now (B.Book.meaning book.now)) }
     ensures law { GoesOn open_day_end (lent head.old deals.now lines.now (B.Book.meaning book.now)) (lent head.new deals.now lines.now (B.Book.meaning book.now)) }
 {
-    let found = fault(head, deals, lines, book.accounts(), book.resources());
-    open_unbroken(head, found)
+    let register = Register { head, deals, lines };
+    let checked = check(book, register);
+    open_unbroken(head, checked)
 }
 
-fn lift_unbroken(head: &mut Head, found: Option<Fault>, sheet: DaySheet) -> Result<(), Refusal>
-    ensures answer { result ≡ or_broken_fault found (Ok tt) }
-    ensures change { head.new ≡ unless_broken found (lifted head.old) head.old }
+fn lift_unbroken(
+    head: &mut Head,
+    checked: Result<(), Fault>,
+    sheet: DaySheet,
+) -> Result<(), Refusal>
+    ensures answer { result ≡ or_broken_fault checked (Ok tt) }
+    ensures change { head.new ≡ unless_broken checked (lifted head.old) head.old }
 {
-    if let Some(broken) = found {
+    if let Err(broken) = checked {
         let mut spare = *head;
         lift_day_end(&mut spare, sheet);
-        return Err(Refusal::Broken(broken));
+        return Err(broken.into());
     }
     lift_day_end(head, sheet);
     Ok(())
@@ -61,8 +75,9 @@ pub fn lift<B: Book>(
     ensures world { lent head.new deals.now lines.now (B.Book.meaning book.now) ≡ after lift_day_end (lent head.old deals.now lines.now (B.Book.meaning book.now)) }
     ensures law { GoesOn lift_day_end (lent head.old deals.now lines.now (B.Book.meaning book.now)) (lent head.new deals.now lines.now (B.Book.meaning book.now)) }
 {
-    let found = fault(head, deals, lines, book.accounts(), book.resources());
-    lift_unbroken(head, found, sheet)
+    let register = Register { head, deals, lines };
+    let checked = check(book, register);
+    lift_unbroken(head, checked, sheet)
 }
 
 /// Over a register that breaks no rule.
@@ -79,7 +94,7 @@ fn close_sound(
 {
     let before = head.date;
     close_day_end(head, sheet, date)?;
-    accrue_all(deals, head.used.deals as usize, date - before);
+    accrue_all(&mut deals[..head.used.deals as usize], date - before);
     Ok(())
 }
 
@@ -96,9 +111,10 @@ pub fn close<B: Book>(
     ensures world { lent head.new deals.new lines.now (B.Book.meaning book.now) ≡ after (close_day_end date) (lent head.old deals.old lines.now (B.Book.meaning book.now)) }
     ensures law { GoesOn (close_day_end date) (lent head.old deals.old lines.now (B.Book.meaning book.now)) (lent head.new deals.new lines.now (B.Book.meaning book.now)) }
 {
-    if let Some(broken) = fault(head, deals, lines, book.accounts(), book.resources()) {
+    let register = Register { head, deals, lines };
+    if let Err(broken) = register.check(book.accounts(), book.resources()) {
         return Err(NotClosed {
-            refusal: Refusal::Broken(broken),
+            refusal: Refusal::from(broken),
             sheet,
         });
     }

@@ -1,9 +1,9 @@
 //! The interest of a deal paid, and the deal gone.
-ghost use Rattle.std.specs.Prelude.{◌≡◌, ◌-◌, ◌<◌, ◌≤◌, length, is_ok, if◌then◌else◌, slice_index_or};
+ghost use Rattle.std.specs.Prelude.{◌≡◌, ◌-◌, ◌<◌, ◌≤◌, IfSome, length, is_ok, if◌then◌else◌, ◌==◌, slice_index_or};
+ghost use Rattle.std.specs.List.{list_any};
 ghost use Rattle.std.specs.Result.{result_map_both};
 ghost use Rattle.book.specs.Lists.{run};
 ghost use Rattle.drafts.specs.Drafts.{slips_of, movable, book_after, list_after};
-ghost use Rattle.memory.specs.Places.{Rising, place_of, deal_numbers};
 ghost use Rattle.memory.specs.Rows.{no_deal};
 ghost use Rattle.memory.specs.Sound.{used_lines};
 ghost use Rattle.tables.specs.Rows.{without, using_deals};
@@ -14,20 +14,15 @@ ghost use Rattle.calls.specs.Paying.{interest_slips, pay_answer, pay_head, pay_d
 
 use book::Book;
 use drafts::{Draft, move_slips};
-use memory::{Deal, Head, Kind, Line, Phase, Sense, Slip, fault, find_deal};
+use memory::{Deal, Head, Kind, Line, Phase, Register, Sense, Slip};
 use sides::Refusal;
 use tables::remove_deal;
 
-/// Whether a line of the deal stands among these.
+/// Whether a line of the deal is among these.
 fn any_on(lines: &[Line], number: u32) -> bool
-    ensures { result ≡ has_lines number lines.now }
+    ensures { result ≡ list_any (λ l. l.deal == number) lines.now }
 {
-    for place in 0..lines.len() {
-        if lines[place].deal == number {
-            return true;
-        }
-    }
-    false
+    lines.iter().any(|line| line.deal == number)
 }
 
 /// Whether a line of the deal stands.
@@ -35,7 +30,7 @@ fn has_lines(head: &Head, lines: &[Line], number: u32) -> bool
     requires { head.now.used.lines ≤ length lines.now }
     ensures { result ≡ has_lines number (used_lines head.now lines.now) }
 {
-    any_on(&lines[0..head.used.lines as usize], number)
+    any_on(&lines[..head.used.lines as usize], number)
 }
 
 /// The slip of a deal's whole interest, if there is any.
@@ -44,7 +39,7 @@ fn draft_interest(deal: &Deal) -> Draft
 {
     let mut draft = Draft::empty();
     if deal.whole > 0 {
-        draft.put(Slip {
+        let slip = Slip {
             kind: Kind::Pay,
             sense: Sense::Cash,
             deal: deal.number,
@@ -53,7 +48,9 @@ fn draft_interest(deal: &Deal) -> Draft
             from: deal.giver,
             to: deal.taker,
             amount: deal.whole,
-        });
+        };
+        // An empty draft has room.
+        draft.put(slip).unwrap();
     }
     draft
 }
@@ -80,29 +77,28 @@ fn pay_at<B: Book>(
     Ok(draft.slips().len())
 }
 
-/// Over a register that breaks no rule.
-fn pay_sound<B: Book>(
+/// Pays the interest of the deal that was found at `row`, and removes it, if one was found and no line of it stands.
+fn pay_found<B: Book>(
     head: &mut Head,
     deals: &mut [Deal],
     lines: &[Line],
     list: &mut [Slip],
     book: &mut B,
     number: u32,
+    row: Option<usize>,
 ) -> Result<usize, Refusal>
-    requires { (Rising (deal_numbers head.old deals.old)) × ((head.old.used.deals ≤ length deals.old) × ((length deals.old ≤ 64) × (head.old.used.lines ≤ length lines.now))) }
-    ensures answer { result ≡ pay_answer head.old deals.old lines.now (B.Book.meaning book.old) list.old number (place_of number (deal_numbers head.old deals.old)) }
-    ensures head { head.new ≡ pay_head head.old deals.old lines.now (B.Book.meaning book.old) list.old number (place_of number (deal_numbers head.old deals.old)) }
-    ensures deals { deals.new ≡ pay_deals head.old deals.old lines.now (B.Book.meaning book.old) list.old number (place_of number (deal_numbers head.old deals.old)) }
-    ensures list { list.new ≡ pay_list head.old deals.old lines.now (B.Book.meaning book.old) list.old number (place_of number (deal_numbers head.old deals.old)) }
-    ensures book { B.Book.meaning book.new ≡ pay_book head.old deals.old lines.now (B.Book.meaning book.old) list.old number (place_of number (deal_numbers head.old deals.old)) }
+    requires { (IfSome row (λ i. i < head.old.used.deals)) × ((head.old.used.deals ≤ length deals.old) × ((length deals.old ≤ 64) × (head.old.used.lines ≤ length lines.now))) }
+    ensures answer { result ≡ pay_answer head.old deals.old lines.now (B.Book.meaning book.old) list.old number row }
+    ensures head { head.new ≡ pay_head head.old deals.old lines.now (B.Book.meaning book.old) list.old number row }
+    ensures deals { deals.new ≡ pay_deals head.old deals.old lines.now (B.Book.meaning book.old) list.old number row }
+    ensures list { list.new ≡ pay_list head.old deals.old lines.now (B.Book.meaning book.old) list.old number row }
+    ensures book { B.Book.meaning book.new ≡ pay_book head.old deals.old lines.now (B.Book.meaning book.old) list.old number row }
     ensures stays { B.Book.home book.new ≡ B.Book.home book.old }
 {
     if let Phase::DayEnd = head.phase {
         return Err(Refusal::WrongPhase);
     }
-    let Some(row) = find_deal(head, deals, number) else {
-        return Err(Refusal::NotStanding);
-    };
+    let row = row.ok_or(Refusal::NotStanding)?;
     if has_lines(head, lines, number) {
         return Err(Refusal::LinesStand);
     }
@@ -124,8 +120,8 @@ pub fn pay<B: Book>(
     ensures stays { B.Book.home book.new ≡ B.Book.home book.old }
     ensures law { GoesOn (pay_call (length list.old) number) (lent head.old deals.old lines.now (B.Book.meaning book.old)) (lent head.new deals.new lines.now (B.Book.meaning book.new)) }
 {
-    if let Some(broken) = fault(head, deals, lines, book.accounts(), book.resources()) {
-        return Err(Refusal::Broken(broken));
-    }
-    pay_sound(head, deals, lines, list, book, number)
+    let register = Register { head, deals, lines };
+    let checked = register.check(book.accounts(), book.resources())?;
+    let row = checked.find_deal(number);
+    pay_found(head, deals, lines, list, book, number, row)
 }

@@ -9,27 +9,25 @@ use Rattle.panel.specs.Asking.{owed_to}
 use Rattle.register_script.specs.declared.command.RegisterCommand.{RegisterCommand}
 use Rattle.register_script.specs.declared.command.RegisterCommand.TheVariants.{Price, Giver, Taker, Match, Withdraw, Panel, Poke, Call}
 use Rattle.valuation.specs.declared.price.Price.{Price as PriceRecord}
-use Rattle.commands.specs.declared.answer.Answer.{Answer}
-use Rattle.commands.specs.declared.answer.Answer.TheVariants.{Accepted, Misplaced}
-use Rattle.commands.specs.Answers.{of_panel}
+use Rattle.commands.specs.Answers.{Answer, accepted, misplaced, by_panel}
 use Rattle.commands.specs.Hands.{Held, nothing, side_answer, given_after, taken_after, match_answer, matched_after}
 use Rattle.commands.specs.Poking.{poke_answer, poked_head, poked_deals, poked_lines}
 use Rattle.commands.specs.Pricing.{priced_answer, priced_after}
 
 -- the front panel answers, or refuses
 abbrev pub panel_answer : Result ℕ PanelRefusal → Answer
-panel_answer (Ok n) = Accepted
-panel_answer (Err e) = of_panel e
+panel_answer (Ok n) = accepted
+panel_answer (Err e) = Err (by_panel e)
 
 abbrev pub act_answer : Meaning → Head → List Deal → List Line → List PriceRecord → Held → RegisterCommand → Answer
 act_answer m h ds ls ps held (Price q) = priced_answer (length ps) q
 act_answer m h ds ls ps held (Giver t) = side_answer t
 act_answer m h ds ls ps held (Taker t) = side_answer t
 act_answer m h ds ls ps held Match = match_answer held
-act_answer m h ds ls ps held Withdraw = Accepted
+act_answer m h ds ls ps held Withdraw = accepted
 act_answer m h ds ls ps held (Panel a) = panel_answer (owed_to m h ds ls a)
 act_answer m h ds ls ps held (Poke p) = poke_answer p.target p.value h ds ls
-act_answer m h ds ls ps held (Call c) = Misplaced
+act_answer m h ds ls ps held (Call c) = misplaced
 
 abbrev pub head_after : Head → RegisterCommand → Head
 head_after h (Price q) = h

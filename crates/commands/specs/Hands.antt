@@ -5,8 +5,7 @@ use Rattle.sides.specs.declared.refusal.Refusal.TheVariants.{OutOfRange, SidesDi
 use Rattle.sides.specs.declared.terms.Terms.{Terms}
 use Rattle.sides.specs.Ranges.{terms_fit}
 use Rattle.sides.specs.Sameness.{same_terms}
-use Rattle.commands.specs.declared.answer.Answer.{Answer}
-use Rattle.commands.specs.declared.answer.Answer.TheVariants.{Accepted, ByRegister, Misplaced}
+use Rattle.commands.specs.Answers.{Answer, accepted, refused, misplaced}
 use Rattle.commands.specs.declared.hand.Hand.{Hand}
 
 pub record Held : Type 0 where
@@ -23,7 +22,7 @@ nothing = record { giver = None; taker = None; pair = None }
 -- ── a side is stated ──
 
 abbrev pub side_answer : Terms → Answer
-side_answer t = cond (terms_fit t) Accepted (ByRegister OutOfRange)
+side_answer t = cond (terms_fit t) accepted (refused OutOfRange)
 
 abbrev pub given_after : Terms → Held → Held
 given_after t h = record { giver = cond (terms_fit t) (Some t) h.giver; taker = h.taker; pair = h.pair }
@@ -34,10 +33,10 @@ taken_after t h = record { giver = h.giver; taker = cond (terms_fit t) (Some t) 
 -- ── two sides are matched, where there is no pair yet ──
 
 abbrev pub answer_by : Option Terms → Option Terms → Option Terms → Answer
-answer_by (Some g) (Some t) None = cond (same_terms g t) Accepted (ByRegister SidesDiffer)
-answer_by (Some g) (Some t) (Some p) = Misplaced
-answer_by (Some g) None p = Misplaced
-answer_by None t p = Misplaced
+answer_by (Some g) (Some t) None = cond (same_terms g t) accepted (refused SidesDiffer)
+answer_by (Some g) (Some t) (Some p) = misplaced
+answer_by (Some g) None p = misplaced
+answer_by None t p = misplaced
 
 abbrev pub held_by : Option Terms → Option Terms → Option Terms → Held
 held_by (Some g) (Some t) None = cond (same_terms g t) (record { giver = None; taker = None; pair = Some g }) (record { giver = Some g; taker = Some t; pair = None })

@@ -1,10 +1,9 @@
 -- Writing into the lent memory.
-use Rattle.std.specs.Prelude.{ℕ, ◌^◌, cond, List, length, Some, None, Option, ◌==◌, nat_lt, slice_index_or, slice_set}
-use Rattle.std.specs.Option.{option_map, unwrap_or}
+use Rattle.std.specs.Prelude.{ℕ, ◌^◌, cond, List, Some, None, Option, ◌==◌, nat_lt, slice_get, slice_set}
+use Rattle.std.specs.Option.{option_map, option_and_then, unwrap_or}
 use Rattle.memory.specs.declared.row.Deal.{Deal}
 use Rattle.memory.specs.declared.row.Head.{Head}
 use Rattle.memory.specs.declared.row.Line.{Line}
-use Rattle.memory.specs.Rows.{no_deal, no_line}
 use Rattle.register_script.specs.declared.poke.DealField.{DealField}
 use Rattle.register_script.specs.declared.poke.DealField.TheVariants as deal
 use Rattle.register_script.specs.declared.poke.HeadField.{HeadField}
@@ -13,8 +12,7 @@ use Rattle.register_script.specs.declared.poke.LineField.{LineField}
 use Rattle.register_script.specs.declared.poke.LineField.TheVariants as line
 use Rattle.register_script.specs.declared.poke.Target.{Target}
 use Rattle.register_script.specs.declared.poke.Target.TheVariants.{Head as InHead, Deal as InDeal, Line as InLine}
-use Rattle.commands.specs.declared.answer.Answer.{Answer}
-use Rattle.commands.specs.declared.answer.Answer.TheVariants.{Accepted, Misplaced}
+use Rattle.commands.specs.Answers.{Answer, accepted, misplaced}
 
 -- a value that fits 32 bits, and one that fits 16
 abbrev pub small_of : ℕ → Option ℕ
@@ -93,21 +91,21 @@ line_with f v l = option_map (λ n. line_set (line_place f) n l) (line_fit f v)
 -- ── in the memory ──
 
 -- the row at a place as it is to be; nothing past the table, or where the value does not fit
-abbrev pub row_with : {X : Type 0} → X → (X → Option X) → ℕ → List X → Option X
-row_with z change i rows = cond (nat_lt i (length rows)) (change (slice_index_or rows i z)) None
+abbrev pub row_with : {X : Type 0} → (X → Option X) → ℕ → List X → Option X
+row_with change i rows = option_and_then change (slice_get rows i)
 
 abbrev pub written : {X : Type 0} → Option X → ℕ → List X → List X
 written (Some x) i rows = slice_set rows i x
 written None i rows = rows
 
 abbrev pub done : {X : Type 0} → Option X → Answer
-done (Some x) = Accepted
-done None = Misplaced
+done (Some x) = accepted
+done None = misplaced
 
 abbrev pub poke_answer : Target → ℕ → Head → List Deal → List Line → Answer
 poke_answer (InHead f) v h deals lines = done (head_with f v h)
-poke_answer (InDeal i f) v h deals lines = done (row_with no_deal (deal_with f v) i deals)
-poke_answer (InLine i f) v h deals lines = done (row_with no_line (line_with f v) i lines)
+poke_answer (InDeal i f) v h deals lines = done (row_with (deal_with f v) i deals)
+poke_answer (InLine i f) v h deals lines = done (row_with (line_with f v) i lines)
 
 abbrev pub poked_head : Target → ℕ → Head → Head
 poked_head (InHead f) v h = unwrap_or (head_with f v h) h
@@ -116,10 +114,10 @@ poked_head (InLine i f) v h = h
 
 abbrev pub poked_deals : Target → ℕ → List Deal → List Deal
 poked_deals (InHead f) v deals = deals
-poked_deals (InDeal i f) v deals = written (row_with no_deal (deal_with f v) i deals) i deals
+poked_deals (InDeal i f) v deals = written (row_with (deal_with f v) i deals) i deals
 poked_deals (InLine i f) v deals = deals
 
 abbrev pub poked_lines : Target → ℕ → List Line → List Line
 poked_lines (InHead f) v lines = lines
 poked_lines (InDeal i f) v lines = lines
-poked_lines (InLine i f) v lines = written (row_with no_line (line_with f v) i lines) i lines
+poked_lines (InLine i f) v lines = written (row_with (line_with f v) i lines) i lines

@@ -4,23 +4,21 @@ ghost use Rattle.panel.specs.Asking.{owed_to};
 ghost use Rattle.commands.specs.Acting.{panel_answer, act_answer, head_after, deals_after, lines_after, prices_after, held_after};
 ghost use Rattle.commands.specs.Hands.{held};
 
-use crate::answer::Answer;
 use crate::hand::Hand;
 use crate::poking::poke;
 use crate::pricing::quote;
+use crate::unobeyed::Unobeyed;
 use book::Book;
-use memory::{Deal, Head, Line};
+use memory::{Deal, Head, Line, Register};
 use panel::still_to_come_back;
 use register_script::RegisterCommand;
 use valuation::Price;
 
-fn look<B: Book>(book: &B, head: &Head, deals: &[Deal], lines: &[Line], account: u32) -> Answer
-    ensures { result ≡ panel_answer (owed_to (B.Book.meaning book.now) head.now deals.now lines.now account) }
+fn look<B: Book>(book: &B, register: Register, account: u32) -> Result<(), Unobeyed>
+    ensures { result ≡ panel_answer (owed_to (B.Book.meaning book.now) register.entry.head.now register.entry.deals.now register.entry.lines.now account) }
 {
-    match still_to_come_back(book, head, deals, lines, account) {
-        Ok(_) => Answer::Accepted,
-        Err(refusal) => Answer::of_panel(refusal),
-    }
+    still_to_come_back(book, register, account)?;
+    Ok(())
 }
 
 /// Carries out a command on the register's memory and on what is in hand.
@@ -32,7 +30,7 @@ pub fn act<B: Book>(
     prices: &mut [Price],
     hand: &mut Hand,
     command: RegisterCommand,
-) -> Answer
+) -> Result<(), Unobeyed>
     ensures answer { result ≡ act_answer (B.Book.meaning book.now) head.old deals.old lines.old prices.old (held hand.old) command }
     ensures head { head.new ≡ head_after head.old command }
     ensures deals { deals.new ≡ deals_after deals.old command }
@@ -47,10 +45,10 @@ pub fn act<B: Book>(
         RegisterCommand::Match => hand.match_sides(),
         RegisterCommand::Withdraw => {
             hand.withdraw();
-            Answer::Accepted
+            Ok(())
         }
-        RegisterCommand::Panel(account) => look(book, head, deals, lines, account),
+        RegisterCommand::Panel(account) => look(book, Register { head, deals, lines }, account),
         RegisterCommand::Poke(change) => poke(head, deals, lines, change),
-        RegisterCommand::Call(_) => Answer::Misplaced,
+        RegisterCommand::Call(_) => Err(Unobeyed::Misplaced),
     }
 }

@@ -2,9 +2,10 @@
 ghost use Rattle.std.specs.Prelude.{◌≡◌};
 ghost use Rattle.commands.specs.Hands.{held, nothing, side_answer, given_after, taken_after, match_answer, matched_after};
 
-use crate::answer::Answer;
+use crate::unobeyed::Unobeyed;
 use sides::{GiverSide, Matched, Refusal, TakerSide, Terms, Unmatched, match_sides};
 
+// A side may be stated anew while a pair is in hand, so each of the three comes and goes for itself.
 #[derive(Drop)]
 pub struct Hand {
     giver: Option<GiverSide>,
@@ -24,57 +25,42 @@ impl Hand {
     }
 
     /// States the giver's side, in the place of an earlier one.
-    pub(crate) fn state_giver(&mut self, terms: Terms) -> Answer
+    pub(crate) fn state_giver(&mut self, terms: Terms) -> Result<(), Unobeyed>
         ensures answer { result ≡ side_answer terms }
         ensures change { held self.new ≡ given_after terms (held self.old) }
     {
-        match GiverSide::state(terms) {
-            Ok(side) => {
-                self.giver = Some(side);
-                Answer::Accepted
-            }
-            Err(refusal) => Answer::ByRegister(refusal),
-        }
+        self.giver = Some(GiverSide::state(terms)?);
+        Ok(())
     }
 
     /// States the taker's side, in the place of an earlier one.
-    pub(crate) fn state_taker(&mut self, terms: Terms) -> Answer
+    pub(crate) fn state_taker(&mut self, terms: Terms) -> Result<(), Unobeyed>
         ensures answer { result ≡ side_answer terms }
         ensures change { held self.new ≡ taken_after terms (held self.old) }
     {
-        match TakerSide::state(terms) {
-            Ok(side) => {
-                self.taker = Some(side);
-                Answer::Accepted
-            }
-            Err(refusal) => Answer::ByRegister(refusal),
-        }
+        self.taker = Some(TakerSide::state(terms)?);
+        Ok(())
     }
 
     /// Matches the two sides; where they differ, both stay in hand.
-    pub(crate) fn match_sides(&mut self) -> Answer
+    pub(crate) fn match_sides(&mut self) -> Result<(), Unobeyed>
         ensures answer { result ≡ match_answer (held self.old) }
         ensures change { held self.new ≡ matched_after (held self.old) }
     {
         if self.pair.is_some() || self.taker.is_none() {
-            return Answer::Misplaced;
+            return Err(Unobeyed::Misplaced);
         }
-        let Some(giver) = self.giver.take() else {
-            return Answer::Misplaced;
-        };
-        let Some(taker) = self.taker.take() else {
-            return Answer::Misplaced;
-        };
+        let giver = self.giver.take().ok_or(Unobeyed::Misplaced)?;
+        let taker = self.taker.take().ok_or(Unobeyed::Misplaced)?;
         match match_sides(giver, taker) {
             Ok(pair) => {
                 self.pair = Some(pair);
-                Answer::Accepted
+                Ok(())
             }
-            Err(unmatched) => {
-                let Unmatched { giver, taker } = unmatched;
+            Err(Unmatched { giver, taker }) => {
                 self.giver = Some(giver);
                 self.taker = Some(taker);
-                Answer::ByRegister(Refusal::SidesDiffer)
+                Err(Unobeyed::ByRegister(Refusal::SidesDiffer))
             }
         }
     }

@@ -2,15 +2,15 @@
 #![tactic(auto)]
 
 mod acting;
-mod answer;
 mod hand;
 mod obeying;
 mod poking;
 mod preparing;
 mod pricing;
+mod unobeyed;
 
 pub use acting::act;
-pub use answer::Answer;
 pub use hand::Hand;
 pub use obeying::obey;
 pub use preparing::prepare;
+pub use unobeyed::Unobeyed;

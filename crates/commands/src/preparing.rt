@@ -1,60 +1,23 @@
-//! The commands before the book is made: its choice and its opening amounts.
+//! The commands before the book is made.
 ghost use Rattle.std.specs.Prelude.{◌≡◌, length};
-ghost use Rattle.commands.specs.Preparing.{chosen_answer, chosen_after, stated_answer, stated_after, prepared_answer, prepared_choice, prepared_amounts};
+ghost use Rattle.commands.specs.Preparing.{prepared_answer, prepared_choice, prepared_amounts};
 
-use crate::answer::{Answer, answer_of};
-use book::BookRefusal;
-use books::state_amount;
-use register_script::{BookChoice, Command, Holding};
-
-/// Chooses the book, where none is chosen yet.
-fn choose(chosen: &mut Option<BookChoice>, wanted: BookChoice) -> Answer
-    ensures answer { result ≡ chosen_answer chosen.old wanted }
-    ensures change { chosen.new ≡ chosen_after chosen.old wanted }
-{
-    let BookChoice {
-        kind: _,
-        accounts,
-        resources,
-        count,
-    } = wanted;
-    if chosen.is_some() {
-        return Answer::Misplaced;
-    }
-    if accounts < 2 || accounts > 64 || resources < 4 || resources > 128 || count > 65_535 {
-        return Answer::ByBook(BookRefusal::Unfit);
-    }
-    *chosen = Some(wanted);
-    Answer::Accepted
-}
-
-/// States an opening amount of the book that is chosen.
-fn state(chosen: &Option<BookChoice>, amounts: &mut [u64], stated: Holding) -> Answer
-    ensures answer { result ≡ stated_answer chosen.now (length amounts.old) stated }
-    ensures change { amounts.new ≡ stated_after chosen.now amounts.old stated }
-{
-    let Some(book) = chosen else {
-        return Answer::Misplaced;
-    };
-    answer_of(state_amount(
-        book.accounts,
-        book.resources,
-        amounts,
-        stated.account,
-        stated.resource,
-        stated.quantity,
-    ))
-}
+use crate::unobeyed::Unobeyed;
+use register_script::Command;
+use script::BookChoice;
 
 /// Carries out a command that stands before the book is made.
-pub fn prepare(chosen: &mut Option<BookChoice>, amounts: &mut [u64], command: Command) -> Answer
+pub fn prepare(
+    chosen: &mut Option<BookChoice>,
+    amounts: &mut [u64],
+    command: Command,
+) -> Result<(), Unobeyed>
     ensures answer { result ≡ prepared_answer chosen.old (length amounts.old) command }
     ensures choice { chosen.new ≡ prepared_choice chosen.old command }
     ensures amounts { amounts.new ≡ prepared_amounts chosen.old amounts.old command }
 {
     match command {
-        Command::Choose(wanted) => choose(chosen, wanted),
-        Command::Amount(stated) => state(chosen, amounts, stated),
-        _ => Answer::Misplaced,
+        Command::Book(command) => Ok(booking::prepare(chosen, amounts, command)?),
+        Command::Begin(_) | Command::Register(_) => Err(Unobeyed::Misplaced),
     }
 }

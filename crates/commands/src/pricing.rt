@@ -3,7 +3,7 @@ ghost use Rattle.std.specs.Prelude.{◌≡◌, length};
 ghost use Rattle.valuation.specs.Prices.{in_ranges};
 ghost use Rattle.commands.specs.Pricing.{priced_answer, priced_after};
 
-use crate::answer::Answer;
+use crate::unobeyed::Unobeyed;
 use register_script::Quotation;
 use sides::Refusal;
 use valuation::{Price, price_fault};
@@ -16,14 +16,16 @@ fn in_ranges(price: Price) -> bool
 }
 
 /// Replaces the record of a security; the list has one for each security from 3 on.
-pub(crate) fn quote(prices: &mut [Price], quotation: Quotation) -> Answer
+pub(crate) fn quote(prices: &mut [Price], quotation: Quotation) -> Result<(), Unobeyed>
     ensures answer { result ≡ priced_answer (length prices.old) quotation }
     ensures change { prices.new ≡ priced_after quotation prices.old }
 {
     let Quotation { security, price } = quotation;
-    if security < 3 || security as usize - 3 >= prices.len() || !in_ranges(price) {
-        return Answer::ByRegister(Refusal::OutOfRange);
+    let place = security.checked_sub(3).ok_or(Refusal::OutOfRange)? as usize;
+    if place >= prices.len() || !in_ranges(price) {
+        return Err(Unobeyed::ByRegister(Refusal::OutOfRange));
     }
-    prices[security as usize - 3] = price;
-    Answer::Accepted
+    // With `get_mut`, what the list becomes stays open.
+    prices[place] = price;
+    Ok(())
 }

@@ -1,14 +1,11 @@
 //! The console: a script in, everything that happened out.
 #![tactic(auto)]
 
-mod answer;
-mod obeying;
-mod output;
-mod preparing;
-mod session;
+mod book_console;
 
 use anyhow::anyhow;
-use session::run;
+use book_console::BookConsole;
+use booking::run;
 use std::io::{BufWriter, Read, Write};
 
 fn main(rt: HostRuntime) -> anyhow::Result<()> {
@@ -16,7 +13,7 @@ fn main(rt: HostRuntime) -> anyhow::Result<()> {
     let mut text = Vec::new(heap);
     rt.stdin().read_to_end(&mut text)?;
     let mut out = BufWriter::new(heap, rt.stdout())?;
-    let understood = run(heap, &mut out, &text)?;
+    let understood = run(heap, &BookConsole, &mut out, &text)?;
     out.flush()?;
     if !understood {
         return Err(anyhow!("a command was not understood"));

@@ -1,5 +1,5 @@
 -- What a draft holds, and what comes of it.
-use Rattle.std.specs.Prelude.{ℕ, cond, List, length, take, is_ok, Ok, Err, Result, nat_lt}
+use Rattle.std.specs.Prelude.{ℕ, cond, List, length, is_ok, Ok, Err, Result, nat_lt}
 use Rattle.book.specs.declared.movement.RefusedAt.{RefusedAt}
 use Rattle.book.specs.Lists.{run, rehearsed}
 use Rattle.book.specs.Meaning.{Meaning}
@@ -9,12 +9,17 @@ use Rattle.sides.specs.declared.refusal.Refusal.TheVariants.{NoSlips, Book}
 use Rattle.law.specs.Outcomes.{listed}
 use Rattle.law.specs.Slips.{movements_of}
 use Rattle.drafts.specs.declared.draft.Draft.{Draft}
+use Rattle.drafts.specs.declared.draft.DraftFull.{DraftFull}
 
 abbrev pub most_slips : ℕ
 most_slips = 1024
 
 abbrev pub slips_of : Draft → List Slip
-slips_of d = take d.count d.slips
+slips_of d = d.slips.items
+
+-- a slip more is put where there are fewer than the most
+abbrev pub put_answer : List Slip → Result (Unit {0}) DraftFull
+put_answer xs = cond (nat_lt (length xs) most_slips) (Ok tt) (Err (record {}))
 
 -- the book's refusal as the register's
 abbrev pub by_book : Result (Unit {0}) RefusedAt → Result (Unit {0}) Refusal

@@ -4,5 +4,5 @@
 mod draft;
 mod moving;
 
-pub use draft::Draft;
+pub use draft::{Draft, DraftFull};
 pub use moving::move_slips;

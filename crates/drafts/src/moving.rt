@@ -1,22 +1,11 @@
 //! Slips moved on the book and written to the host's list.
-ghost use Rattle.std.specs.Prelude.{◌≡◌, ◌≤◌, length};
-ghost use Rattle.law.specs.Outcomes.{listed};
+ghost use Rattle.std.specs.Prelude.{◌≡◌, length};
 ghost use Rattle.drafts.specs.Drafts.{slips_of, movable, book_after, list_after};
 
 use crate::draft::Draft;
 use book::{Book, perform};
 use memory::Slip;
 use sides::Refusal;
-
-/// Writes slips from the first place on; the later places stay.
-fn write(slips: &[Slip], list: &mut [Slip])
-    requires { length slips.now ≤ length list.old }
-    ensures { list.new ≡ listed slips.now list.old }
-{
-    for place in 0..slips.len() {
-        list[place] = slips[place];
-    }
-}
 
 /// Moves the slips on the book and writes them, all or none: refused by 13 where the list is too short, and by 14 where
 /// the book refuses a movement.
@@ -30,11 +19,7 @@ pub fn move_slips<B: Book>(draft: &Draft, list: &mut [Slip], book: &mut B) -> Re
     if slips.len() > list.len() {
         return Err(Refusal::NoSlips);
     }
-    match perform(book, draft.moves()) {
-        Ok(()) => {
-            write(slips, list);
-            Ok(())
-        }
-        Err(refused) => Err(Refusal::Book(refused)),
-    }
+    perform(book, draft.moves())?;
+    list[..slips.len()].copy_from_slice(slips);
+    Ok(())
 }

@@ -1,5 +1,5 @@
 -- The most that may be taken. Assumes nothing.
-use Rattle.std.proofs.Common.{◌≡◌, ℕ, ◌-◌, ◌/◌, ◌<◌, ◌≤◌, min, true, false, cond, ltb, leb, List, get_or, Some, None, sym, ◌∙◌, arith}
+use Rattle.std.proofs.Common.{◌≡◌, ℕ, ◌/◌, ◌<◌, ◌≤◌, min, true, false, cond, ltb, List, get_or, Some, None, sym, ◌∙◌, arith}
 use Rattle.book.specs.Meaning.{Meaning, Lawful, within, free}
 use Rattle.valuation.specs.declared.price.Price.{Price}
 use Rattle.std.proofs.lemmas.Bool.Decides.{nat_tests}
@@ -15,11 +15,8 @@ module _ (o : Order) (w : ℕ → ℕ) (beside n : ℕ) where
   most_free off = sym (largest_here (within_limit o w beside) n (rw off))
 
   -- where what the deal has passes the limit by itself, nothing may be
-  pub most_none : (q : ℕ) → o.limit ≡ true → None ≡ cond (leb beside (o.target / 10)) (Some (o.target / 10 - beside)) None → q ≡ min most_units 0 → q ≡ largest_up_to (within_limit o w beside) n
-  most_none q on over e =
-      let high : o.target / 10 < beside = grind (arith, nat_tests) in
-      let z : q ≡ 0 = omega arith in
-      z ∙ sym ((largest_is (within_limit o w beside) n).none (λ k h. grind (arith, nat_tests)))
+  pub most_none : (q : ℕ) → o.limit ≡ true → o.target / 10 < beside → q ≡ 0 → q ≡ largest_up_to (within_limit o w beside) n
+  most_none q on over z = z ∙ sym ((largest_is (within_limit o w beside) n).none (λ k h. grind (arith, nat_tests)))
 
 -- no book has a security at a place that has no number
 pub beyond_book : (m : Meaning) (worth : ℕ → ℕ → ℕ → ℕ) (o : Order) (held : List ℕ) (p : Price) (k need : ℕ) → Lawful m → None ≡ cond (ltb k 125) (Some (security_at k)) None → None ≡ taken_at m worth o held p k need

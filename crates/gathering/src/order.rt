@@ -1,7 +1,7 @@
 //! What a gathering is asked for, and what it takes.
 use valuation::Currency;
 
-#[derive(Clone, Copy)]
+#[derive(Clone, Copy, PartialEq, Eq, Debug)]
 pub struct Order {
     /// The account whose securities are tried.
     pub giver: u32,
@@ -16,7 +16,7 @@ pub struct Order {
 }
 
 /// A quantity of a security.
-#[derive(Clone, Copy)]
+#[derive(Clone, Copy, PartialEq, Eq, Debug, Default)]
 pub struct Pick {
     pub security: u32,
     pub quantity: u64,

@@ -1,11 +1,11 @@
 //! What is taken of one security.
-ghost use Rattle.std.specs.Prelude.{◌≡◌, ◌+◌, ◌<◌, length, if◌then◌else◌, Some, None, nat_lt, slice_index, slice_index_or};
+ghost use Rattle.std.specs.Prelude.{◌≡◌, ◌+◌, if◌then◌else◌, Some, None, nat_lt, slice_index};
 ghost use Rattle.std.specs.Option.{option_map};
-ghost use Rattle.valuation.specs.Prices.{price_in, no_price};
+ghost use Rattle.valuation.specs.Prices.{price_in};
 ghost use Rattle.valuation.specs.Ranges.{terms, counted};
-ghost use Rattle.gathering.specs.Taking.{eligible, worthless, taken_for, security_at, taken_at};
+ghost use Rattle.gathering.specs.Taking.{eligible, worthless, taken_for, security_at};
 
-use crate::most::most_of;
+use crate::course::Course;
 use crate::order::{Order, Pick};
 use book::Book;
 use valuation::{Price, Quote, Units, Valuation, smallest};
@@ -15,13 +15,6 @@ use valuation::{Price, Quote, Units, Valuation, smallest};
 pub(crate) struct Taken {
     pub(crate) pick: Pick,
     pub(crate) worth: u64,
-}
-
-/// What the deal's own lines in the security at `place` are worth.
-fn held_at(held: &[u64], place: usize) -> u64
-    ensures { result ≡ slice_index held.now place }
-{
-    if place < held.len() { held[place] } else { 0 }
 }
 
 /// The number of the security at `place`; nothing beyond the securities that a book can have.
@@ -52,41 +45,34 @@ fn quantity_for<V: Valuation>(valuation: &V, quote: Quote, most: Units, need: u6
     if most.count() == 0 || valuation.value(quote, most) == 0 {
         return None;
     }
-    match smallest(valuation, quote, most, need) {
-        Some(least) => Some(least),
-        None => Some(most),
-    }
+    smallest(valuation, quote, most, need).or(Some(most))
 }
 
-/// What is taken of the security at `place` where a need is open; nothing where it is passed over.
-pub(crate) fn taken_at<B: Book, V: Valuation>(
-    book: &B,
-    valuation: &V,
-    prices: &[Price],
-    order: Order,
-    held: &[u64],
-    place: usize,
-    need: u64,
-) -> Option<Taken>
-    requires { place < length prices.now }
-    ensures { result ≡ taken_at (B.Book.meaning book.now) (V.Valuation.worth valuation.now) order held.now (slice_index_or prices.now place no_price) place need }
-{
-    let quote = quote_for(&prices[place], order)?;
-    let security = security_at(place)?;
-    let most = most_of(
-        book,
-        valuation,
-        quote,
-        order,
-        security,
-        held_at(held, place),
-    );
-    let quantity = quantity_for(valuation, quote, most, need)?;
-    Some(Taken {
-        pick: Pick {
-            security,
-            quantity: quantity.count(),
-        },
-        worth: valuation.value(quote, quantity),
-    })
+impl<B: Book, V: Valuation> Course<'_, B, V> {
+    ghost use Rattle.gathering.specs.Taking.{taken_at};
+
+    /// What the deal's own lines in the security at `place` are worth.
+    fn held_at(&self, place: usize) -> u64
+        ensures { result ≡ slice_index self.now.held.now place }
+    {
+        self.held.get(place).copied().unwrap_or(0)
+    }
+
+    /// What is taken of the security at `place`, which has the record `price`, where a need is open; nothing where it is
+    /// passed over.
+    pub(crate) fn taken_at(&self, place: usize, price: &Price, need: u64) -> Option<Taken>
+        ensures { result ≡ taken_at (B.Book.meaning self.now.book.now) (V.Valuation.worth self.now.valuation.now) self.now.order self.now.held.now price.now place need }
+    {
+        let quote = quote_for(price, self.order)?;
+        let security = security_at(place)?;
+        let most = self.most_of(quote, security, self.held_at(place));
+        let quantity = quantity_for(self.valuation, quote, most, need)?;
+        Some(Taken {
+            pick: Pick {
+                security,
+                quantity: quantity.count(),
+            },
+            worth: self.valuation.value(quote, quantity),
+        })
+    }
 }

@@ -3,6 +3,7 @@ use Rattle.std.proofs.Common.{◌≡◌, ℕ, ◌+◌, ◌-◌, ◌≤◌, true,
 use Rattle.std.proofs.lemmas.Bool.{and_parts, leb-true}
 use Rattle.book.specs.Lists.{run}
 use Rattle.memory.specs.declared.row.Deal.{Deal}
+use Rattle.sharing.specs.declared.accrual.Interest.{Interest}
 use Rattle.memory.specs.Deals.{amended as amended_to, grown as grown_by, with_growth, accrual_of}
 use Rattle.memory.specs.Rows.{no_deal}
 use Rattle.memory.specs.Sound.{number}
@@ -45,7 +46,7 @@ module _ (o : Opening) (s : State) (h : List Entry) (k : Kept o s h) (p : Plan) 
   grown_number : (days : ℕ) (d : Deal) → ((grown_by days d).number ≡ d.number) × Alike (grown_by days d) d
   grown_number days d = go (accrual_of days d)
     where
-      go : (i : Option (ℕ × ℕ)) → ((with_growth i d).number ≡ d.number) × Alike (with_growth i d) d
+      go : (i : Option Interest) → ((with_growth i d).number ≡ d.number) × Alike (with_growth i d) d
       go (Some i) = (refl, record { giver = refl; taker = refl; currency = refl })
       go None = (refl, record { giver = refl; taker = refl; currency = refl })
 

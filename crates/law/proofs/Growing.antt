@@ -5,11 +5,11 @@ use Rattle.std.proofs.lemmas.Bool.Decides.{nat_tests}
 use Rattle.book.specs.Meaning.{Meaning}
 use Rattle.memory.specs.declared.row.Deal.{Deal}
 use Rattle.memory.specs.declared.row.Line.{Line}
-use Rattle.memory.specs.Deals.{grown as grown_by, with_interest, with_growth}
+use Rattle.memory.specs.Deals.{grown as grown_by, interest_in, with_interest, with_growth}
 use Rattle.memory.specs.Kinds.{base_of}
 use Rattle.memory.specs.Sound.{number}
 use Rattle.sharing.specs.Accrual.{accrued, in_range}
-use Rattle.sharing.proofs.Interest.{exact, below, dated}
+use Rattle.sharing.proofs.Accruing.{exact, below, dated}
 use Rattle.sharing.specs.Limits.{most_days, most_daily}
 use Rattle.law.specs.Sums.{only, total}
 use Rattle.law.specs.Past.{Opening, Entry, closed, stated, is_interest, comes_to, goes_from, settled_numbers, deal_numbers, back_on, interest_of, pair_of, rate_of, stood, accrued_on, added_by, date_by, date_of, cash_of}
@@ -23,10 +23,10 @@ use Rattle.law.proofs.Kept.{Ranged, Says, cash_over, DealsKept}
 
 -- a deal with the interest of some days
 pub grown_is : (accounts next date days : ℕ) (d : Deal) → Ranged accounts next date d → date ≤ 65_535 → days ≤ most_days
-    → grown_by days d ≡ with_interest (accrued d.whole d.residue d.cash d.rate days (base_of d.currency)) d
+    → grown_by days d ≡ with_interest (accrued (interest_in d) d.cash d.rate days (base_of d.currency)) d
 grown_is accounts next date days d r late few =
-    let t : in_range d.whole d.residue d.cash d.rate days (base_of d.currency) ≡ true = grind (arith, nat_tests, r.cash, r.rate, r.whole, r.residue, late, few) in
-    ap (λ b. with_growth (cond b (Some (accrued d.whole d.residue d.cash d.rate days (base_of d.currency))) None) d) t
+    let t : in_range (interest_in d) d.cash d.rate days (base_of d.currency) ≡ true = grind (arith, nat_tests, r.cash, r.rate, r.whole, r.residue, late, few) in
+    ap (λ b. with_growth (cond b (Some (accrued (interest_in d) d.cash d.rate days (base_of d.currency))) None) d) t
 
 module _ (o : Opening) (m : Meaning) (date next days new : ℕ) (ds : List Deal) (ls : List Line) (h : List Entry) (e : Entry)
     (k : DealsKept o m date next ds ls h) (no_slips : e.slips ≡ []) (says-closed : stated e ≡ closed new)
@@ -35,7 +35,7 @@ module _ (o : Opening) (m : Meaning) (date next days new : ℕ) (ds : List Deal)
   quiet_c i = quiet_closed i e (ap (total (back_on i)) no_slips) (ap (total (interest_of i)) no_slips) new says-closed
 
   abbrev grows : Deal → Deal
-  grows d = with_interest (accrued d.whole d.residue d.cash d.rate days (base_of d.currency)) d
+  grows d = with_interest (accrued (interest_in d) d.cash d.rate days (base_of d.currency)) d
 
   -- each deal by itself
   same_deals : (xs : List Deal) → Each (Ranged m.accounts next date) xs → map (grown_by days) xs ≡ map grows xs
@@ -63,7 +63,7 @@ module _ (o : Opening) (m : Meaning) (date next days new : ℕ) (ds : List Deal)
         rate = s.rate ∙ sym (q.rate (rate_of d.number h));
         cash = omega (arith, s.cash, q.back, ap (λ u. u.cash) pair);
         parts = s.parts;
-        interest = exact d.whole d.residue d.cash d.rate days (base_of d.currency) ∙ ap (λ v. v + d.cash * d.rate * days) s.interest ∙ sym more;
+        interest = exact (interest_in d) d.cash d.rate days (base_of d.currency) ∙ ap (λ v. v + d.cash * d.rate * days) s.interest ∙ sym more;
         up = q.stands (stood d.number h) ∙ s.up;
         unpaid = omega (arith, s.unpaid, q.interest);
       }
@@ -82,7 +82,7 @@ module _ (o : Opening) (m : Meaning) (date next days new : ℕ) (ds : List Deal)
         date_most = new-most;
         next_some = k.next_some;
         rise = ordered_map number grows (λ d. refl) ds k.rise;
-        ranged = all_over _ _ grows (λ d r. record { number_some = r.number_some; number_below = r.number_below; giver = r.giver; taker = r.taker; differ = r.differ; margin = r.margin; sought_some = r.sought_some; sought_most = r.sought_most; rate = r.rate; cash = r.cash; whole = subst (λ x. (accrued d.whole d.residue d.cash d.rate days (base_of d.currency)).0 ≤ most_daily * x) (sym later) (dated d.whole d.residue d.cash d.rate days date (base_of d.currency) r.cash r.rate r.residue r.whole); residue = below d.whole d.residue d.cash d.rate days (base_of d.currency) }) ds k.ranged;
+        ranged = all_over _ _ grows (λ d r. record { number_some = r.number_some; number_below = r.number_below; giver = r.giver; taker = r.taker; differ = r.differ; margin = r.margin; sought_some = r.sought_some; sought_most = r.sought_most; rate = r.rate; cash = r.cash; whole = subst (λ x. (accrued (interest_in d) d.cash d.rate days (base_of d.currency)).whole ≤ most_daily * x) (sym later) (dated (interest_in d) d.cash d.rate days date (base_of d.currency) r.cash r.rate r.residue r.whole); residue = below (interest_in d) d.cash d.rate days (base_of d.currency) }) ds k.ranged;
         says = all_over _ _ grows says_c ds k.says;
         once = λ i. omega (arith, ap (λ y. count i (settled_numbers y ++ deal_numbers h)) says-closed, k.once i);
         fresh = λ i l. unseen_quiet o i e h (quiet_c i) (k.fresh i l);

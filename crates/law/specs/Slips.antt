@@ -8,6 +8,7 @@ use Rattle.memory.specs.declared.row.Line.{Line}
 use Rattle.memory.specs.declared.row.Sense.{Sense}
 use Rattle.memory.specs.declared.row.Sense.TheVariants.{Out, Back, Cash}
 use Rattle.memory.specs.declared.row.Slip.{Slip}
+pub use Rattle.memory.specs.Slips.{movement_of}
 use Rattle.memory.specs.Sound.{return_number}
 use Rattle.tables.specs.Rows.{less_quantity}
 use Rattle.valuation.specs.Currencies.{number_of}
@@ -37,9 +38,6 @@ deliveries kind d n [] = []
 deliveries kind d n (x ∷ xs) = out_slip kind d n x.security x.quantity ∷ deliveries kind d (n + 1) xs
 
 -- ── what slips do ──
-
-abbrev pub movement_of : Slip → Movement
-movement_of x = record { from = x.from; to = x.to; resource = x.resource; quantity = x.amount }
 
 abbrev pub movements_of : List Slip → List Movement
 movements_of xs = map movement_of xs

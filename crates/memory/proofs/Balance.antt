@@ -1,14 +1,16 @@
 -- Cash against sums. Assumes nothing.
-use Rattle.std.proofs.Common.{◌≡◌, ℕ, suc, ◌+◌, ◌<◌, ◌≤◌, Bool, cond, not, eqb, List, [], ◌∷◌, map, length, get_or, take, drop, Some, None, Option, sym, refl, ap, ◌∙◌, inl, inr, arith}
+use Rattle.std.proofs.Common.{◌≡◌, ℕ, suc, ◌+◌, ◌<◌, ◌≤◌, Bool, cond, not, eqb, List, [], ◌∷◌, map, length, get_or, take, Some, Option, sym, refl, ap, ◌∙◌, inl, inr, arith}
 use Rattle.std.proofs.lemmas.List.FromFn.{length-map-range_with_len, get_or-map-range_with_len, fill_by_all}
-use Rattle.std.proofs.lemmas.List.{drop_more, drop_all, length-map, get_or-map, length-take, get_or-take, ext_get_or}
+use Rattle.std.proofs.lemmas.List.{length-map, get_or-map, length-take, get_or-take, ext_get_or}
 use Rattle.std.proofs.lemmas.Bool.{cases_lt, lt-ltb, le-ltb, cond-true, cond-false}
+use Rattle.std.proofs.lemmas.Iterator.Adapters.{position_from-zero}
+use Rattle.std.specs.List.{position_from, zip}
 use Rattle.memory.specs.declared.row.Deal.{Deal}
 use Rattle.memory.specs.Checks.{key_at, keys_of, uneven}
 use Rattle.memory.specs.Places.{Rising}
 use Rattle.memory.specs.Rows.{no_deal}
 use Rattle.memory.specs.Sound.{number, first_set}
-use Rattle.memory.proofs.Firsts.{turned}
+use Rattle.memory.proofs.Firsts.{set_from}
 
 -- ── the numbers of the deals, and numbers above them ──
 
@@ -55,22 +57,18 @@ module _ (next : ℕ) (ds : List Deal) where
 
 -- ── the first deal whose cash is not its sum ──
 
-module _ (ds : List Deal) (ss : List ℕ) (i : ℕ) where
-  pub uneven_more : i < length ds → i < length ss → uneven i (drop i ds) (drop i ss) ≡ cond (not (eqb (get_or ds i no_deal).cash (get_or ss i 0))) (Some i) (uneven (i + 1) (drop (i + 1) ds) (drop (i + 1) ss))
-  unfolding uneven
-  uneven_more h g =
-      (λ t. uneven i (drop_more ds i no_deal h t) (drop_more ss i 0 g t))
-      ∙ turned (eqb (get_or ds i no_deal).cash (get_or ss i 0)) (uneven (i + 1) (drop (i + 1) ds) (drop (i + 1) ss)) (Some i)
+module _ (test : Deal → Bool) where
+  uneven_from : (i : ℕ) (ds : List Deal) (ss : List ℕ) → length ds ≤ length ss → ((k : ℕ) → k < length ds → eqb (get_or ds k no_deal).cash (get_or ss k 0) ≡ test (get_or ds k no_deal))
+      → position_from (λ (p : Deal × ℕ). not (eqb p.0.cash p.1)) i (zip ds ss) ≡ position_from (λ d. not (test d)) i ds
+  uneven_from i [] ss h e = refl
+  uneven_from i (d ∷ ds) [] h e = absurd (omega arith)
+  uneven_from i (d ∷ ds) (s ∷ ss) h e =
+      ap (λ b. cond (not b) (Some i) (position_from (λ (p : Deal × ℕ). not (eqb p.0.cash p.1)) (i + 1) (zip ds ss))) (e 0 (omega arith))
+      ∙ ap (λ (o : Option ℕ). cond (not (test d)) (Some i) o) (uneven_from (i + 1) ds ss (omega arith) (λ k l. e (suc k) (omega arith)))
 
-  pub uneven_all : length ds ≤ i → None ≡ uneven i (drop i ds) (drop i ss)
-  unfolding uneven
-  uneven_all h = sym (ap (λ (zs : List Deal). uneven i zs (drop i ss)) (drop_all i ds h))
-
--- each sum is met as the test says
-pub uneven_is : (test : Deal → Bool) (i : ℕ) (ds : List Deal) (ss : List ℕ) → length ds ≤ length ss → ((k : ℕ) → k < length ds → eqb (get_or ds k no_deal).cash (get_or ss k 0) ≡ test (get_or ds k no_deal)) → uneven i ds ss ≡ first_set test i ds
-unfolding uneven first_set
-uneven_is test i [] ss h e = refl
-uneven_is test i (d ∷ ds) [] h e = absurd (omega arith)
-uneven_is test i (d ∷ ds) (s ∷ ss) h e =
-    ap (λ b. cond b (uneven (i + 1) ds ss) (Some i)) (e 0 (omega arith))
-    ∙ ap (λ (o : Option ℕ). cond (test d) o (Some i)) (uneven_is test (i + 1) ds ss (omega arith) (λ k l. e (suc k) (omega arith)))
+  -- each sum is met as the test says
+  pub uneven_is : (ds : List Deal) (ss : List ℕ) → length ds ≤ length ss → ((k : ℕ) → k < length ds → eqb (get_or ds k no_deal).cash (get_or ss k 0) ≡ test (get_or ds k no_deal)) → uneven ds ss ≡ first_set test 0 ds
+  uneven_is ds ss h e =
+      position_from-zero (λ (p : Deal × ℕ). not (eqb p.0.cash p.1)) (zip ds ss)
+      ∙ uneven_from 0 ds ss h e
+      ∙ sym (set_from test (λ d. not (test d)) (λ d. refl) 0 ds)

@@ -84,12 +84,12 @@ module _ (accounts : ℕ) (h : Head) where
             same : (c s : ℕ) → c ≤ most_cash → eqb c (capped (0 + s)) ≡ eqb c s
             same c s low = grind (arith, nat_tests)
 
-        pub uneven_fit : uneven 0 fit (with_parts fit_keys (replicate 64 0) ls) ≡ first_set (balanced ls) 0 fit
+        pub uneven_fit : uneven fit (with_parts fit_keys (replicate 64 0) ls) ≡ first_set (balanced ls) 0 fit
         uneven_fit =
             let long = length_with_parts fit_keys (replicate 64 0) ls ∙ length-replicate {A = ℕ} 64 0 in
-            uneven_is (balanced ls) 0 fit _ (omega (arith, fit_short)) sum_is
+            uneven_is (balanced ls) fit _ (omega (arith, fit_short)) sum_is
 
-        pub deals_broken : option_or (uneven 0 fit (with_parts fit_keys (replicate 64 0) ls)) (first_broken number (deal_fits accounts h) 0 0 xs) ≡ first_broken number (deal_sound accounts h ls) 0 0 xs
+        pub deals_broken : option_or (uneven fit (with_parts fit_keys (replicate 64 0) ls)) (first_broken number (deal_fits accounts h) 0 0 xs) ≡ first_broken number (deal_sound accounts h ls) 0 0 xs
         deals_broken =
             ap (λ (o : Option ℕ). option_or o (first_broken number (deal_fits accounts h) 0 0 xs)) uneven_fit
             ∙ sym (both_broken number (deal_fits accounts h) (balanced ls) 0 0 xs)
@@ -122,12 +122,12 @@ module _ (accounts : ℕ) (h : Head) where
         pub keys_rising : Rising keys
         keys_rising = subst Rising (sym keys_are) (keys_rise few)
 
-        module _ (ls : List Line) (sums : List ℕ) (row loose : Option ℕ) (summed : sums ≡ with_parts keys (replicate 64 0) ls) (off : row ≡ uneven 0 front sums) (free : loose ≡ first_set (names keys count) 0 ls) where
+        module _ (ls : List Line) (sums : List ℕ) (row loose : Option ℕ) (summed : sums ≡ with_parts keys (replicate 64 0) ls) (off : row ≡ uneven front sums) (free : loose ≡ first_set (names keys count) 0 ls) where
           pub looked_broken : option_or row unfit ≡ first_broken number (deal_sound accounts h ls) 0 0 xs
           looked_broken =
               (λ i. option_or (off i) (first i))
-              ∙ (λ i. option_or (uneven 0 (front_is i) (summed i)) (first_broken number (deal_fits accounts h) 0 0 xs))
-              ∙ ap (λ (ns : List ℕ). option_or (uneven 0 fit (with_parts ns (replicate 64 0) ls)) (first_broken number (deal_fits accounts h) 0 0 xs)) keys_are
+              ∙ (λ i. option_or (uneven (front_is i) (summed i)) (first_broken number (deal_fits accounts h) 0 0 xs))
+              ∙ ap (λ (ns : List ℕ). option_or (uneven fit (with_parts ns (replicate 64 0) ls)) (first_broken number (deal_fits accounts h) 0 0 xs)) keys_are
               ∙ deals_broken few ls
 
           pub looked_loose : None ≡ option_or row unfit → loose ≡ first_loose xs ls

@@ -1,13 +1,15 @@
 -- The first row that breaks a rule. Assumes nothing.
-use Rattle.std.proofs.Common.{◌≡◌, ℕ, zero, suc, ◌+◌, ◌<◌, ◌≤◌, min, Bool, true, false, cond, not, ◌&&◌, List, [], ◌∷◌, map, length, get_or, take, drop, IfSome, Some, None, Option, unwrap_or, sym, refl, ap, ◌∙◌, inl, inr, arith}
+use Rattle.std.proofs.Common.{◌≡◌, ℕ, zero, suc, ◌+◌, ◌<◌, ◌≤◌, min, Bool, true, false, cond, not, ◌&&◌, List, [], ◌∷◌, map, length, get_or, take, drop, IfSome, Some, None, Option, position, unwrap_or, sym, refl, ap, ◌∙◌, inl, inr, arith}
 use Rattle.std.proofs.lemmas.List.{at_drop_more, at_drop_all, length-map, length-take, get_or-map, get_or-take}
 use Rattle.std.proofs.lemmas.Bool.{cases_Bool, cond-true, cond-false}
-use Rattle.std.specs.Option.{option_or}
+use Rattle.std.proofs.lemmas.Iterator.Adapters.{position_from-zero}
+use Rattle.std.specs.List.{position_from}
+use Rattle.std.specs.Option.{option_map, option_or}
 use Rattle.memory.specs.Checks.{earlier}
 use Rattle.memory.specs.Places.{Rising}
 use Rattle.memory.specs.Sound.{first_broken, first_set}
 
-pub turned : {Y : Type 0} (b : Bool) (x y : Y) → cond b x y ≡ cond (not b) y x
+turned : {Y : Type 0} (b : Bool) (x y : Y) → cond b x y ≡ cond (not b) y x
 turned true x y = refl
 turned false x y = refl
 
@@ -18,28 +20,44 @@ module _ {X : Type 0} (key : X → ℕ) (rule : ℕ → X → Bool) (xs : List X
       at_drop_more (first_broken key rule i before) xs i x h
       ∙ ap (λ (y : X). cond (rule before y) (first_broken key rule (i + 1) (key y) (drop (i + 1) xs)) (Some i)) (sym e)
 
-  pub broken_more : (x : X) (b : Bool) (n : ℕ) → i < length xs → x ≡ get_or xs i x → b ≡ rule before x → b ≡ true → n ≡ key x → first_broken key rule (i + 1) n (drop (i + 1) xs) ≡ first_broken key rule i before (drop i xs)
-  broken_more x b n h e is t number = ap (λ m. first_broken key rule (i + 1) m (drop (i + 1) xs)) number ∙ sym (step x h e ∙ cond-true _ _ _ (sym is ∙ t))
+  pub broken_more : (x : X) → i < length xs → x ≡ get_or xs i x → rule before x ≡ true → first_broken key rule (i + 1) (key x) (drop (i + 1) xs) ≡ first_broken key rule i before (drop i xs)
+  broken_more x h e t = sym (step x h e ∙ cond-true _ _ _ t)
 
-  pub broken_here : (x : X) (b : Bool) → i < length xs → x ≡ get_or xs i x → b ≡ rule before x → b ≡ false → Some i ≡ first_broken key rule i before (drop i xs)
-  broken_here x b h e is f = sym (step x h e ∙ cond-false _ _ _ (sym is ∙ f))
+  pub broken_here : (x : X) → i < length xs → x ≡ get_or xs i x → rule before x ≡ false → Some i ≡ first_broken key rule i before (drop i xs)
+  broken_here x h e f = sym (step x h e ∙ cond-false _ _ _ f)
 
   pub broken_all : length xs ≤ i → None ≡ first_broken key rule i before (drop i xs)
   unfolding first_broken
   broken_all h = sym (at_drop_all (first_broken key rule i before) xs i h)
 
-module _ {X : Type 0} (zero' : X → Bool) (xs : List X) (i : ℕ) where
-  pub set_more : (x : X) (b : Bool) → i < length xs → x ≡ get_or xs i x → b ≡ zero' x → first_set zero' i (drop i xs) ≡ cond (not b) (Some i) (first_set zero' (i + 1) (drop (i + 1) xs))
-  unfolding first_set
-  set_more x b h e is =
-      at_drop_more (first_set zero' i) xs i x h
-      ∙ ap (λ (y : X). cond (zero' y) (first_set zero' (i + 1) (drop (i + 1) xs)) (Some i)) (sym e)
-      ∙ turned (zero' x) (first_set zero' (i + 1) (drop (i + 1) xs)) (Some i)
-      ∙ ap (λ c. cond (not c) (Some i) (first_set zero' (i + 1) (drop (i + 1) xs))) (sym is)
+-- ── the first row that is not blank, as a position ──
 
-  pub set_all : length xs ≤ i → None ≡ first_set zero' i (drop i xs)
+later : {X : Type 0} (p : X → Bool) (i k : ℕ) (xs : List X) → position_from p (i + k) xs ≡ option_map (λ n. i + n) (position_from p k xs)
+later p i k [] = refl
+later p i k (x ∷ xs) =
+    elim (cases_Bool (p x)) [
+      | inl t ↦ rw (t) refl
+      | inr f ↦ let e : i + k + 1 ≡ i + (k + 1) = omega arith in rw (f) (ap (λ n. position_from p n xs) e ∙ later p i (k + 1) xs)
+    ]
+
+module _ {X : Type 0} (blank p : X → Bool) (opposed : (x : X) → p x ≡ not (blank x)) where
+  pub set_from : (i : ℕ) (xs : List X) → first_set blank i xs ≡ position_from p i xs
   unfolding first_set
-  set_all h = sym (at_drop_all (first_set zero' i) xs i h)
+  set_from i [] = refl
+  set_from i (x ∷ xs) =
+      turned (blank x) (first_set blank (i + 1) xs) (Some i)
+      ∙ ap (λ b. cond b (Some i) (first_set blank (i + 1) xs)) (sym (opposed x))
+      ∙ ap (λ (o : Option ℕ). cond (p x) (Some i) o) (set_from (i + 1) xs)
+
+  pub set_position : (xs : List X) → first_set blank 0 xs ≡ position p xs
+  set_position xs = set_from 0 xs ∙ sym (position_from-zero p xs)
+
+  pub set_place : (i : ℕ) (xs : List X) (o : Option ℕ) → o ≡ position p xs → option_map (λ n. i + n) o ≡ first_set blank i xs
+  set_place i xs o e =
+      let same : i ≡ i + 0 = omega arith in
+      ap (option_map (λ n. i + n)) (e ∙ position_from-zero p xs)
+      ∙ sym (later p i 0 xs)
+      ∙ sym (set_from i xs ∙ ap (λ n. position_from p n xs) same)
 
 -- ── two rules ──
 

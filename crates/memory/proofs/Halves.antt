@@ -1,8 +1,14 @@
 -- Numbers that rise, and the search for one by halves. Assumes nothing.
-use Rattle.std.proofs.Common.{◌≡◌, ℕ, zero, suc, ◌+◌, ◌-◌, ◌<◌, ◌≤◌, min, true, false, eqb, ◌⊎◌, List, [], ◌∷◌, map, length, get_or, take, is_some, IfSome, Some, None, Option, sym, refl, ap, ◌∙◌, subst, inl, inr, arith, MatchOption}
-use Rattle.std.proofs.lemmas.List.{get_or-map, length-take, get_or-take, take_all}
+use Rattle.std.proofs.Common.{◌≡◌, ℕ, zero, suc, ◌+◌, ◌<◌, ◌≤◌, min, true, false, eqb, ◌⊎◌, List, [], ◌∷◌, map, length, get_or, take, is_some, IfSome, Some, None, Option, Result, Ok, Err, sym, refl, ap, ◌∙◌, subst, inl, inr, arith, MatchOption}
+use Rattle.std.proofs.lemmas.List.{get_or-map, length-map, length-take, get_or-take, map-id, take_all}
 use Rattle.std.proofs.lemmas.Bool.{cases_lt, cases_eq, eq-eqb, ne_eqb, cond-true, cond-false}
-use Rattle.memory.specs.Places.{Rising, place_from, place_of, FoundAt, Sought}
+use Rattle.std.proofs.lemmas.Bool.Decides.{nat_tests}
+use Rattle.std.proofs.lemmas.Cmp.{ranked}
+use Rattle.std.specs.List.Sorted.{IsSearchInRange, IsBinarySearchResult, IsNonDecreasingBy, IsPartitionPoint}
+use Rattle.std.specs.Ordering.{nat_cmp, ordering_index}
+use Rattle.std.specs.Result.{result_ok}
+use Rattle.std.specs.declared.cmp.Ordering.TheVariants.{Less, Greater}
+use Rattle.memory.specs.Places.{Rising, place_from, place_of, FoundAt}
 
 -- ── the first place ──
 
@@ -96,55 +102,51 @@ not_among n c k ns b h =
 
 -- ── by halves ──
 
-module _ (ns : List ℕ) (rows n : ℕ) where
-  pub sought_start : length ns ≡ rows → 1 ≤ rows → Sought ns rows n 0 rows
-  sought_start e h = record { some = h; listed = omega arith; here = λ up k l is. (omega arith, omega arith) }
+-- the number of a row that is there
+number_at : {X : Type 0} (key : X → ℕ) (xs : List X) (i n : ℕ) → i < length xs → ((d : X) → key (get_or xs i d) ≡ n) → get_or (map key xs) i 0 ≡ n
+number_at key [] i n h e = absurd (omega arith)
+number_at key (x ∷ xs) i n h e = get_or-map key (x ∷ xs) i x 0 h ∙ e x
 
-  module _ (low size half : ℕ) (h : half < size) (s : Sought ns rows n low size) (e : length ns ≡ rows) where
-    pub sought_up : get_or ns (low + half) 0 ≤ n → Sought ns rows n (low + half) (size - half)
-    sought_up a =
-        record {
-          some = omega arith;
-          listed = omega (arith, s.listed);
-          here = λ up k l is.
-              let at = s.here up k l is in
-              elim (cases_lt k (low + half)) [
-                | inl b ↦ let c = up k (low + half) b (omega (arith, s.listed)) in absurd (omega arith)
-                | inr b ↦ (b, omega (arith, at))
-              ];
-        }
+module _ {X : Type 0} (key : X → ℕ) (xs : List X) (n : ℕ) where
+  -- comparisons with n rise along numbers that rise
+  comparisons_rise : Rising (map key xs) → IsNonDecreasingBy (λ x. ordering_index (nat_cmp (key x) n)) xs
+  comparisons_rise up i j d le l =
+      let long = length-map xs key in
+      let at : (k : ℕ) → k < length xs → get_or (map key xs) k 0 ≡ key (get_or xs k d) = λ k h. get_or-map key xs k d 0 h in
+      elim (cases_eq i j) [
+        | inl e ↦ rw e (omega arith)
+        | inr ne ↦
+            let less : key (get_or xs i d) < key (get_or xs j d) = omega (arith, up i j (omega arith) (omega arith), at i (omega arith), at j l) in
+            grind (arith, nat_tests)
+      ]
 
-    pub sought_down : half + half ≤ size → n < get_or ns (low + half) 0 → Sought ns rows n low (size - half)
-    sought_down d a =
-        record {
-          some = omega arith;
-          listed = omega (arith, s.listed);
-          here = λ up k l is.
-              let at = s.here up k l is in
-              elim (cases_lt k (low + half)) [
-                | inl b ↦ (at.0, omega arith)
-                | inr b ↦
-                    elim (cases_eq k (low + half)) [
-                      | inl c ↦ let z : get_or ns k 0 ≡ get_or ns (low + half) 0 = ap (λ j. get_or ns j 0) c in absurd (omega arith)
-                      | inr c ↦ let z = up (low + half) k (omega arith) l in absurd (omega arith)
-                    ]
-              ];
-        }
+  -- what a search by numbers finds
+  pub searched_in : (r : Result ℕ ℕ) → IsSearchInRange r (length xs) → IsBinarySearchResult (λ x. nat_cmp (key x) n) xs r → IfSome (result_ok r) (λ i. (i < length xs) × (get_or (map key xs) i 0 ≡ n))
+  searched_in (Ok i) within equal = (within, number_at key xs i n within (λ d. ranked _ n _ (sym (equal d))))
+  searched_in (Err i) within parted = tt
 
-  module _ (low size : ℕ) (h : size ≤ 1) (s : Sought ns rows n low size) (e : length ns ≡ rows) (up : Rising ns) where
-    pub sought_found : get_or ns low 0 ≡ n → Some low ≡ place_of n ns
-    sought_found is = sym (place_first n low ns (omega (arith, s.listed, s.some)) is (λ j l at. let b = s.here up j (omega (arith, s.listed, s.some)) at in omega arith))
+  pub searched_place : (r : Result ℕ ℕ) → IsSearchInRange r (length xs) → IsBinarySearchResult (λ x. nat_cmp (key x) n) xs r → Rising (map key xs) → result_ok r ≡ place_of n (map key xs)
+  searched_place (Ok i) within equal up =
+      let long = length-map xs key in
+      let is = number_at key xs i n within (λ d. ranked _ n _ (sym (equal d))) in
+      sym (place_first n i (map key xs) (omega arith) is (rising_before n i (map key xs) up (omega arith) is))
+  searched_place (Err i) within parted up = sym (place_absent n (map key xs) (absent xs (parted (comparisons_rise up))))
+    where
+      absent : (ys : List X) → IsPartitionPoint (λ x. nat_cmp (key x) n ≡ Less) (λ x. nat_cmp (key x) n ≡ Greater) ys i → Before n (map key ys) (length (map key ys))
+      absent [] p j l e = omega arith
+      absent (y ∷ ys) p j l e =
+          let long = length-map (y ∷ ys) key in
+          let at = get_or-map key (y ∷ ys) j y 0 (omega arith) in
+          elim (cases_lt j i) [
+            | inl a ↦ let low : key (get_or (y ∷ ys) j y) < n = ranked _ n _ (sym (p.0 j y (omega arith) a)) in omega arith
+            | inr a ↦ let high : n < key (get_or (y ∷ ys) j y) = ranked _ n _ (sym (p.1 j y a (omega arith))) in omega arith
+          ]
 
-    pub sought_none : (get_or ns low 0 ≡ n → ⊥) → None ≡ place_of n ns
-    sought_none no' =
-        sym (place_absent n ns (λ j l at.
-        let b = s.here up j l at in
-        let same : j ≡ low = omega arith in
-        no' (sym (ap (λ k. get_or ns k 0) same) ∙ at)))
-
--- the number of a row that was read
-pub key_read : {X : Type 0} (key : X → ℕ) (xs : List X) (i : ℕ) (x : X) (n : ℕ) → i < length xs → x ≡ get_or xs i x → n ≡ key x → get_or (map key xs) i 0 ≡ n
-key_read key xs i x n h e is = get_or-map key xs i x 0 h ∙ ap key (sym e) ∙ sym is
+-- among numbers alone
+pub place_searched : (ns : List ℕ) (n : ℕ) (r : Result ℕ ℕ) → IsSearchInRange r (length ns) → IsBinarySearchResult (λ m. nat_cmp m n) ns r → Rising ns → result_ok r ≡ place_of n ns
+place_searched ns n r within is up =
+    let same = map-id ns in
+    searched_place (λ m. m) ns n r within is (subst Rising (sym same) up) ∙ ap (place_of n) same
 
 module _ {X : Type 0} (xs : List X) where
   -- no more rows than there are

@@ -1,8 +1,12 @@
 -- The used lines, judged where the first that names no deal is known. Assumes nothing.
-use Rattle.std.proofs.Common.{◌≡◌, ℕ, true, cond, ◌&&◌, leb, List, length, drop, Some, None, Option, sym, ap, ◌∙◌}
+use Rattle.std.proofs.Common.{◌≡◌, ℕ, true, cond, ◌&&◌, leb, List, length, drop, Some, None, Option, Result, Ok, Err, sym, refl, ap, ◌∙◌}
 use Rattle.std.proofs.lemmas.Bool.{cond-true}
 use Rattle.std.specs.Option.{option_or}
+use Rattle.std.specs.Result.{IsErrAnd, MatchResult}
+use Rattle.memory.specs.declared.place.Fault.{Fault}
+use Rattle.memory.specs.declared.place.Table.{Table}
 use Rattle.memory.specs.declared.place.Table.TheVariants as table
+use Rattle.memory.specs.Register.{checked}
 use Rattle.memory.specs.declared.row.Deal.{Deal}
 use Rattle.memory.specs.declared.row.Head.{Head}
 use Rattle.memory.specs.declared.row.Line.{Line}
@@ -25,3 +29,13 @@ module _ (resources : ℕ) (h : Head) (deals : List Deal) (lines : List Line) wh
   fault_of_lines accounts loose o sound none free is =
       (λ i. first_found (at table.Deals (none i)) (at table.Lines ((is ∙ lines_judged_lem loose free) i)))
       ∙ sym (cond-true (head_sound h (length deals) (length lines)) _ _ (sym sound))
+
+-- a check of a table that passes, and one that does not
+pub passed : (t : Table) (o : Option ℕ) → Ok tt ≡ checked (at t o) → None ≡ o
+passed t None e = refl
+passed t (Some i) e = cc
+
+pub refused : {X : Type 0} (P : X → Type 0) (t : Table) (o first : Option ℕ) (f : Fault) (r : Result X Fault) → Err f ≡ checked (at t o) → o ≡ first → IsErrAnd r (λ e. e ≡ f) → MatchResult r P (λ e. Some e ≡ at t first)
+refused P t None first f r e is out = cc
+refused P t (Some i) first f (Ok x) e is out = absurd out
+refused P t (Some i) first f (Err g) e is out = cc

@@ -1,7 +1,8 @@
 -- A register with no fault is sound, and a sound one has none. Assumes nothing.
-use Rattle.std.proofs.Common.{◌≡◌, ℕ, zero, suc, ◌*◌, ◌<◌, ◌≤◌, Bool, true, not, ◌&&◌, eqb, ltb, leb, List, [], ◌∷◌, length, get_or, Some, None, Option, sym, refl, ◌∙◌, inl, inr, arith}
+use Rattle.std.proofs.Common.{◌≡◌, ℕ, zero, suc, ◌*◌, ◌<◌, ◌≤◌, Bool, true, not, ◌&&◌, eqb, ltb, leb, List, [], ◌∷◌, length, get_or, Some, None, Option, IsNone, Result, Ok, Err, sym, refl, ◌∙◌, inl, inr, arith}
 use Rattle.std.proofs.lemmas.Bool.{and_parts, and_from, lt-ltb, ltb-true, le-leb, leb-true, eq-eqb, eqb-true, ne_eqb, not-true, not_from_false, cases_Bool, cond-true, false≢true}
 use Rattle.std.proofs.lemmas.Bool.Decides.{nat_tests}
+use Rattle.std.specs.Result.{result_err, IsErrAnd}
 use Rattle.sharing.specs.Accrual.{unit_of}
 use Rattle.sharing.specs.Limits.{most_cash, most_rate, most_daily}
 use Rattle.valuation.specs.Currencies.{number_of}
@@ -18,7 +19,7 @@ use Rattle.memory.specs.declared.row.Weighing.{Weighing}
 use Rattle.memory.specs.declared.row.Weighing.TheVariants.{Margin, Haircut}
 use Rattle.memory.specs.Kinds.{weighing_number, base_of}
 use Rattle.memory.specs.Places.{Rising, deal_numbers, line_numbers}
-use Rattle.memory.specs.Register.{MarginHolds, SoundDeal, Stands, SoundLine, Sound, Told}
+use Rattle.memory.specs.Register.{MarginHolds, SoundDeal, Stands, SoundLine, Sound, Told, checked}
 use Rattle.memory.specs.Rows.{no_deal, no_line}
 use Rattle.memory.specs.Sound.{most_number, margin_fits, parties_fit, terms_fit, interest_fits, numbered, parts_on, deal_fits, deal_sound, stands, ranges_fit, line_fits, line_sound, zero_terms, zero_cash, zero_deal, zero_line, used_deals, used_lines, number, return_number, deals_fault, lines_fault, head_sound, at, first_found, fault_of}
 use Rattle.memory.proofs.Filled.{not_some, none_if, filled_from, filled_none, filled_at}
@@ -228,6 +229,20 @@ module _ (accounts resources : ℕ) (h : Head) (deals : List Deal) (lines : List
   pub fault_told : (o : Option Fault) → o ≡ fault_of accounts resources h deals lines → Told o accounts resources h deals lines
   fault_told None e = sound_from e
   fault_told (Some f) e = λ s. not_some f (fault_none s ∙ sym e)
+
+-- a check that passes, and one that does not
+pub checked_none : (o : Option Fault) → Ok tt ≡ checked o → None ≡ o
+checked_none None e = refl
+checked_none (Some f) e = cc
+
+pub checked_some : {X : Type 0} (o : Option Fault) (f : Fault) (r : Result X Fault) → Err f ≡ checked o → IsErrAnd r (λ e. e ≡ f) → result_err r ≡ o
+checked_some None f r e is = cc
+checked_some (Some g) f (Ok x) e is = absurd is
+checked_some (Some g) f (Err h) e is = cc
+
+pub none_is : (o : Option Fault) → IsNone o → None ≡ o
+none_is None e = refl
+none_is (Some f) e = cc
 
 -- ── the used rows of a sound register ──
 

@@ -48,9 +48,9 @@ module _ (ns : List ℕ) (l : Line) (sums : List ℕ) (long : length sums ≡ le
 
 -- ── all lines ──
 
-pub parts_more : (ns sums after : List ℕ) (ls : List Line) (i : ℕ) → i < length ls → with_part ns (get_or ls i no_line) sums ≡ after → with_parts ns after (drop (i + 1) ls) ≡ with_parts ns sums (drop i ls)
+pub parts_more : (ns sums after : List ℕ) (ls : List Line) (i : ℕ) → i < length ls → after ≡ with_part ns (get_or ls i no_line) sums → with_parts ns after (drop (i + 1) ls) ≡ with_parts ns sums (drop i ls)
 unfolding with_parts
-parts_more ns sums after ls i h e = sym (at_drop_more (with_parts ns sums) ls i no_line h ∙ ap (λ ss. with_parts ns ss (drop (i + 1) ls)) e)
+parts_more ns sums after ls i h e = ap (λ ss. with_parts ns ss (drop (i + 1) ls)) e ∙ sym (at_drop_more (with_parts ns sums) ls i no_line h)
 
 pub parts_all : (ns sums : List ℕ) (ls : List Line) (i : ℕ) → length ls ≤ i → with_parts ns sums (drop i ls) ≡ sums
 unfolding with_parts

@@ -1,5 +1,5 @@
 -- How the rules of a register are looked at, table by table.
-use Rattle.std.specs.Prelude.{ℕ, ◌+◌, min, Bool, cond, ◌&&◌, List, [], ◌∷◌, map, length, drop, Some, None, Option, ◌==◌, nat_le, nat_lt, slice_index_or}
+use Rattle.std.specs.Prelude.{ℕ, ◌+◌, min, Bool, cond, not, ◌&&◌, List, map, position, zip, length, drop, Some, None, Option, ◌==◌, nat_le, nat_lt, slice_index_or}
 use Rattle.std.specs.List.{range_with_len}
 use Rattle.std.specs.Option.{option_or}
 use Rattle.memory.specs.declared.row.Deal.{Deal}
@@ -15,11 +15,9 @@ key_at next ds k = cond (nat_lt k (length ds)) (slice_index_or ds k no_deal).num
 unfoldable pub keys_of : ℕ → List Deal → List ℕ
 keys_of next ds = map (key_at next ds) (range_with_len 0 64)
 
--- the place of the first deal whose cash is not the sum beside it, where places count from i
-unfoldable pub uneven : ℕ → List Deal → List ℕ → Option ℕ
-uneven i [] ss = None
-uneven i (d ∷ ds) [] = None
-uneven i (d ∷ ds) (s ∷ ss) = cond (d.cash == s) (uneven (i + 1) ds ss) (Some i)
+-- the place of the first deal whose cash is not the sum beside it
+abbrev pub uneven : List Deal → List ℕ → Option ℕ
+uneven ds ss = position (λ p. not (p.0.cash == p.1)) (zip ds ss)
 
 -- a deal's cash is the parts of its lines
 abbrev pub balanced : List Line → Deal → Bool

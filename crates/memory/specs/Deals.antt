@@ -1,5 +1,6 @@
 -- What is asked of a deal's row, and how it changes.
 use Rattle.std.specs.Prelude.{ℕ, ◌-◌, Bool, cond, ◌&&◌, Some, None, Option, nat_le}
+use Rattle.sharing.specs.declared.accrual.Interest.{Interest}
 use Rattle.sharing.specs.Accrual.{accrual}
 use Rattle.valuation.specs.Most.{most_sought}
 use Rattle.valuation.specs.Worth.{market_value, less_haircut, with_margin}
@@ -39,8 +40,12 @@ due_at date d = nat_le d.due date
 abbrev pub with_cash : ℕ → Deal → Deal
 with_cash cash d = record { number = d.number; giver = d.giver; taker = d.taker; currency = d.currency; class = d.class; weighing = d.weighing; margin = d.margin; sought = d.sought; rate = d.rate; due = d.due; limit = d.limit; cash = cash; whole = d.whole; residue = d.residue }
 
-abbrev pub with_interest : ℕ × ℕ → Deal → Deal
-with_interest i d = record { number = d.number; giver = d.giver; taker = d.taker; currency = d.currency; class = d.class; weighing = d.weighing; margin = d.margin; sought = d.sought; rate = d.rate; due = d.due; limit = d.limit; cash = d.cash; whole = i.0; residue = i.1 }
+-- the interest that it has
+abbrev pub interest_in : Deal → Interest
+interest_in d = record { whole = d.whole; residue = d.residue }
+
+abbrev pub with_interest : Interest → Deal → Deal
+with_interest i d = record { number = d.number; giver = d.giver; taker = d.taker; currency = d.currency; class = d.class; weighing = d.weighing; margin = d.margin; sought = d.sought; rate = d.rate; due = d.due; limit = d.limit; cash = d.cash; whole = i.whole; residue = i.residue }
 
 -- another rate and return day
 abbrev pub amended : ℕ → ℕ → Deal → Deal
@@ -51,10 +56,10 @@ abbrev pub less_cash : ℕ → Deal → Deal
 less_cash part d = with_cash (d.cash - part) d
 
 -- the interest of some days, where every number is in its range
-abbrev pub accrual_of : ℕ → Deal → Option (ℕ × ℕ)
-accrual_of days d = accrual d.whole d.residue d.cash d.rate days (base_of d.currency)
+abbrev pub accrual_of : ℕ → Deal → Option Interest
+accrual_of days d = accrual (interest_in d) d.cash d.rate days (base_of d.currency)
 
-abbrev pub with_growth : Option (ℕ × ℕ) → Deal → Deal
+abbrev pub with_growth : Option Interest → Deal → Deal
 with_growth (Some i) d = with_interest i d
 with_growth None d = d
 

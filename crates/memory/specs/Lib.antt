@@ -1,10 +1,12 @@
 pub mod Begin
+pub mod Blanks
 pub mod Checks
 pub mod Deals
 pub mod Kinds
 pub mod Places
 pub mod Register
 pub mod Rows
+pub mod Slips
 pub mod Sound
 pub mod Tally
 pub mod Valuers

@@ -1,5 +1,5 @@
 -- Rows that are found by their numbers.
-use Rattle.std.specs.Prelude.{◌≡◌, ℕ, ◌+◌, ◌<◌, ◌≤◌, cond, List, [], ◌∷◌, map, length, Some, None, Option, ◌==◌, slice_index, slice_index_or}
+use Rattle.std.specs.Prelude.{◌≡◌, ℕ, ◌+◌, ◌<◌, cond, List, [], ◌∷◌, map, length, Some, None, Option, ◌==◌, slice_index, slice_index_or}
 use Rattle.memory.specs.declared.row.Deal.{Deal}
 use Rattle.memory.specs.declared.row.Head.{Head}
 use Rattle.memory.specs.declared.row.Line.{Line}
@@ -29,9 +29,3 @@ pub record FoundAt {X : Type 0} (key : X → ℕ) (rows : List X) (count n i : �
   pub used : i < count
   pub listed : i < length rows
   pub named : (d : X) → key (slice_index_or rows i d) ≡ n
-
--- of so many rows, n is the number of none but some from low on, where the numbers rise
-pub record Sought (ns : List ℕ) (rows n low size : ℕ) : Type 0 where
-  pub some : 1 ≤ size
-  pub listed : low + size ≤ rows
-  pub here : Rising ns → (k : ℕ) → k < length ns → slice_index ns k ≡ n → (low ≤ k) × (k < low + size)

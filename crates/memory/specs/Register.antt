@@ -1,5 +1,5 @@
 -- What holds of a sound register.
-use Rattle.std.specs.Prelude.{◌≡◌, ℕ, ◌*◌, ◌<◌, ◌≤◌, List, map, length, take, Option, MatchOption, slice_index_or}
+use Rattle.std.specs.Prelude.{◌≡◌, ℕ, ◌*◌, ◌<◌, ◌≤◌, List, map, length, take, Option, Some, None, Result, Ok, Err, MatchOption, slice_index_or}
 use Rattle.std.specs.List.{AllByRecursion as Each}
 use Rattle.sharing.specs.Accrual.{unit_of}
 use Rattle.sharing.specs.Limits.{most_cash, most_rate, most_daily}
@@ -71,3 +71,8 @@ pub record Sound (accounts resources : ℕ) (h : Head) (deals : List Deal) (line
 -- no fault says that the register is sound, and any fault that it is not
 abbrev pub Told : Option Fault → ℕ → ℕ → Head → List Deal → List Line → Type 0
 Told o accounts resources h deals lines = MatchOption o (Sound accounts resources h deals lines) (λ _. Sound accounts resources h deals lines → ⊥)
+
+-- what a check answers where that is the first fault
+abbrev pub checked : Option Fault → Result (Unit {0}) Fault
+checked None = Ok tt
+checked (Some f) = Err f

@@ -2,6 +2,7 @@
 use Rattle.std.specs.Prelude.{ℕ, ◌-◌, false, List, ◌++◌, length, replicate}
 use Rattle.valuation.specs.declared.currency.Currency.TheVariants.{Gbp}
 use Rattle.memory.specs.declared.row.Deal.{Deal}
+use Rattle.memory.specs.declared.row.Head.{Head}
 use Rattle.memory.specs.declared.row.Line.{Line}
 use Rattle.memory.specs.declared.row.Slip.{Slip}
 use Rattle.memory.specs.declared.row.Kind.TheVariants.{Settle}
@@ -21,3 +22,10 @@ no_slip = record { kind = Settle; sense = Out; deal = 0; number = 0; resource = 
 -- a table of n rows whose first rows are used, and whose others are z
 abbrev pub padded : {X : Type 0} → X → ℕ → List X → List X
 padded z n rows = rows ++ replicate (n - length rows) z
+
+-- a head that counts so many used rows
+abbrev pub using_deals : ℕ → Head → Head
+using_deals n h = record { date = h.date; phase = h.phase; next = h.next; used = record { deals = n; lines = h.used.lines } }
+
+abbrev pub using_lines : ℕ → Head → Head
+using_lines n h = record { date = h.date; phase = h.phase; next = h.next; used = record { deals = h.used.deals; lines = n } }

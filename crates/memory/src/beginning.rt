@@ -1,17 +1,19 @@
 //! The start of a register.
-ghost use Rattle.std.specs.Prelude.{◌≡◌, ℕ, ◌<◌, true, length, replicate, IfNone, None};
+ghost use Rattle.std.specs.Prelude.{◌≡◌, ℕ, ◌<◌, true, length, replicate, OnOk};
 ghost use Rattle.memory.specs.Begin.{sized, sizes_fault, begun, fresh_head, Faultless};
+ghost use Rattle.memory.specs.Register.{checked};
 ghost use Rattle.memory.specs.Rows.{no_deal, no_line};
 
 use crate::place::{Fault, Table};
 use crate::row::{Deal, Head, Line, NO_DEAL, NO_LINE, Next, Phase, Used};
 
-fn clear<R: Copy>(rows: &mut [R], zero: R)
-    ensures { rows.new ≡ replicate (length rows.old) zero }
+/// Leaves no row used.
+fn clear(deals: &mut [Deal], lines: &mut [Line])
+    ensures deals { deals.new ≡ replicate (length deals.old) no_deal }
+    ensures lines { lines.new ≡ replicate (length lines.old) no_line }
 {
-    for place in 0..rows.len() {
-        rows[place] = zero;
-    }
+    deals.fill(NO_DEAL);
+    lines.fill(NO_LINE);
 }
 
 /// Writes a register that no rule speaks against.
@@ -23,26 +25,30 @@ fn write_fresh(head: &mut Head, deals: &mut [Deal], lines: &mut [Line], fresh: H
     ensures sound { Faultless head.new deals.new lines.new }
 {
     *head = fresh;
-    clear(deals, NO_DEAL);
-    clear(lines, NO_LINE);
+    clear(deals, lines);
 }
 
 /// Starts a register at a date, with no rows in use; a table of a wrong length is a fault, and then nothing changes.
-pub fn begin(head: &mut Head, deals: &mut [Deal], lines: &mut [Line], date: u16) -> Option<Fault>
-    ensures answer { result ≡ sizes_fault (length deals.old) (length lines.old) }
+pub fn begin(
+    head: &mut Head,
+    deals: &mut [Deal],
+    lines: &mut [Line],
+    date: u16,
+) -> Result<(), Fault>
+    ensures answer { result ≡ checked (sizes_fault (length deals.old) (length lines.old)) }
     ensures head { head.new ≡ begun (sizes_fault (length deals.old) (length lines.old)) (fresh_head date) head.old }
     ensures deals { deals.new ≡ begun (sizes_fault (length deals.old) (length lines.old)) (replicate (length deals.old) no_deal) deals.old }
     ensures lines { lines.new ≡ begun (sizes_fault (length deals.old) (length lines.old)) (replicate (length lines.old) no_line) lines.old }
-    ensures sound { IfNone result (Faultless head.new deals.new lines.new) }
+    ensures sound { OnOk result (Faultless head.new deals.new lines.new) }
 {
     if deals.is_empty() || deals.len() > 64 {
-        return Some(Fault {
+        return Err(Fault {
             table: Table::Deals,
             row: 0,
         });
     }
     if lines.is_empty() || lines.len() > 1_024 {
-        return Some(Fault {
+        return Err(Fault {
             table: Table::Lines,
             row: 0,
         });
@@ -54,5 +60,5 @@ pub fn begin(head: &mut Head, deals: &mut [Deal], lines: &mut [Line], date: u16)
         used: Used { deals: 0, lines: 0 },
     };
     write_fresh(head, deals, lines, fresh, date);
-    None
+    Ok(())
 }

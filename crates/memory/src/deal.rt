@@ -4,10 +4,15 @@ ghost use Rattle.std.specs.Option.{option_map};
 ghost use Rattle.memory.specs.Deals.{target_of, due_at, amended, less_cash, accrual_of, grown, valuation_of, target_in};
 ghost use Rattle.memory.specs.Kinds.{base_of};
 ghost use Rattle.memory.specs.Valuers.{meaning_of};
+ghost use Rattle.memory.specs.Blanks.{blank_deal};
+ghost use Rattle.memory.specs.Rows.{no_deal, using_deals};
+ghost use Rattle.memory.specs.Sound.{number, zero_deal};
+ghost use Rattle.std.proofs.Common.{rules};
 
-use crate::row::{Deal, Weighing, day_base};
+use crate::kept::Row;
+use crate::row::{Deal, Head, NO_DEAL, Used, Weighing, day_base};
 use crate::valuer::Valuer;
-use sharing::{DayBase, accrue};
+use sharing::{DayBase, Interest};
 use valuation::{Haircut, Margin, Sought, Valuation};
 
 /// The target of the value that a deal seeks, by the deal's own valuation.
@@ -73,19 +78,15 @@ impl Deal {
         ensures answer { result ≡ is_some (accrual_of days self.old) }
         ensures change { self.new ≡ grown days self.old }
     {
-        let base = self.day_base();
-        let Some((whole, residue)) = accrue(
-            self.whole,
-            self.residue,
-            self.cash,
-            self.rate,
-            days,
-            base,
-        ) else {
+        let interest = Interest {
+            whole: self.whole,
+            residue: self.residue,
+        };
+        let Some(grown) = interest.accrue(self.cash, self.rate, days, self.day_base()) else {
             return false;
         };
-        self.whole = whole;
-        self.residue = residue;
+        self.whole = grown.whole;
+        self.residue = grown.residue;
         true
     }
 
@@ -94,5 +95,44 @@ impl Deal {
     {
         self.rate = rate;
         self.due = due;
+    }
+}
+
+impl Row for Deal {
+    const MOST: usize = 64;
+
+    ghost MOST = { 64 };
+
+    const NONE: Deal = NO_DEAL;
+
+    ghost NONE = { no_deal };
+
+    ghost blank = { zero_deal };
+
+    ghost key = { number };
+
+    ghost used = { λ h. h.used.deals };
+
+    ghost using = { using_deals };
+
+    ghost few = { Prim.search rules };
+
+    ghost used_back = { λ n h. Prim.search rules };
+
+    ghost blanks = { blank_deal };
+
+    fn number(&self) -> u32 {
+        self.number
+    }
+
+    fn used(head: &Head) -> u32 {
+        head.used.deals
+    }
+
+    fn set_used(head: &mut Head, count: u32) {
+        head.used = Used {
+            deals: count,
+            ..head.used
+        };
     }
 }

@@ -1,127 +1,68 @@
 //! Tables that are judged row by row.
-ghost use Rattle.std.specs.Prelude.{◌≡◌, ℕ, ◌+◌, ◌<◌, Bool, length, drop, if◌then◌else◌, Some, None};
-ghost use Rattle.memory.specs.Sound.{first_broken, first_set, deal_fits, line_fits, zero_deal, zero_line};
+ghost use Rattle.std.specs.Prelude.{◌≡◌, ℕ, ◌<◌, ◌≤◌, Bool, not, length, drop, position, IfSome};
+ghost use Rattle.memory.specs.Sound.{first_broken, first_set, deal_fits, line_fits};
+ghost use Rattle.memory.specs.declared.row.Head.{Head};
 
-use crate::finding::Keyed;
+use crate::kept::Row;
 use crate::row::{Deal, Head, Line};
 use crate::rules::in_turn;
 
-/// Rules by which a row is judged after a row of the number `before`.
-pub(crate) trait Rules<R> {
-    ghost rule: { Self → ℕ → R → Bool };
+/// A row that keeps its own rules, in a book with so many accounts or resources and after a row of the number `before`.
+pub(crate) trait Judged: Row {
+    ghost fits: { ℕ → Head → ℕ → Self → Bool };
 
-    fn passes(&self, before: u64, row: &R) -> bool
-        ensures { result ≡ rule self.now before row.now };
-}
-
-/// The number of the row at `place`; nothing where it breaks a rule, and so is the first from there on.
-fn passed_at<R: Keyed, J: Rules<R>>(rules: &J, rows: &[R], place: usize, before: u64) -> Option<u64>
-    requires { place < length rows.now }
-    ensures { elim result [ Some n ↦ first_broken R.Keyed.key (J.Rules.rule rules.now) (place + 1) n (drop (place + 1) rows.now) ≡ first_broken R.Keyed.key (J.Rules.rule rules.now) place before (drop place rows.now) | None ↦ Some place ≡ first_broken R.Keyed.key (J.Rules.rule rules.now) place before (drop place rows.now) ] }
-{
-    let row = &rows[place];
-    if rules.passes(before, row) {
-        Some(row.key())
-    } else {
-        None
-    }
-}
-
-/// The place of the first row that breaks a rule.
-pub(crate) fn first_broken<R: Keyed, J: Rules<R>>(rules: &J, rows: &[R]) -> Option<usize>
-    ensures { result ≡ first_broken R.Keyed.key (J.Rules.rule rules.now) 0 0 rows.now }
-{
-    let mut before = 0;
-    for place in 0..rows.len() {
-        match passed_at(rules, rows, place, before) {
-            Some(number) => before = number,
-            None => return Some(place),
-        }
-    }
-    None
-}
-
-/// A row of zeros is not used.
-pub(crate) trait Blank {
-    ghost blank: { Self → Bool };
-
-    fn is_blank(&self) -> bool
-        ensures { result ≡ blank self.now };
-}
-
-/// Whether the row at `place` is not zeros, and so is the first from there on.
-fn set_at<R: Blank>(rows: &[R], place: usize) -> bool
-    requires { place < length rows.now }
-    ensures { first_set R.Blank.blank place (drop place rows.now) ≡ (if result then Some place else first_set R.Blank.blank (place + 1) (drop (place + 1) rows.now)) }
-{
-    !rows[place].is_blank()
-}
-
-/// The place of the first row from there on that is not zeros.
-pub(crate) fn first_set<R: Blank>(rows: &[R], from: usize) -> Option<usize>
-    ensures { result ≡ first_set R.Blank.blank from (drop from rows.now) }
-{
-    for place in from..rows.len() {
-        if set_at(rows, place) {
-            return Some(place);
-        }
-    }
-    None
+    fn fits(&self, head: &Head, bound: u32, before: u64) -> bool
+        ensures { result ≡ fits bound head.now before self.now };
 }
 
 /// The rules of a deal's row, but for its standing cash.
-#[derive(Clone, Copy)]
-pub(crate) struct DealRules {
-    pub(crate) head: Head,
-    pub(crate) accounts: u32,
-}
+impl Judged for Deal {
+    ghost fits = { deal_fits };
 
-impl Rules<Deal> for DealRules {
-    ghost rule = { λ j. deal_fits j.accounts j.head };
-
-    fn passes(&self, before: u64, row: &Deal) -> bool {
-        in_turn(self.head.next.deal, before, row.number)
-            && row.parties_fit(self.accounts)
-            && row.terms_fit()
-            && row.interest_fits(self.head.date)
+    fn fits(&self, head: &Head, bound: u32, before: u64) -> bool {
+        in_turn(head.next.deal, before, self.number)
+            && self.parties_fit(bound)
+            && self.terms_fit()
+            && self.interest_fits(head.date)
     }
 }
 
 /// The rules of a line's row, but for its deal.
-#[derive(Clone, Copy)]
-pub(crate) struct LineRules {
-    pub(crate) head: Head,
-    pub(crate) resources: u32,
-}
+impl Judged for Line {
+    ghost fits = { line_fits };
 
-impl Rules<Line> for LineRules {
-    ghost rule = { λ j. line_fits j.resources j.head };
-
-    fn passes(&self, before: u64, row: &Line) -> bool {
-        in_turn(self.head.next.line, before, row.number) && row.ranges_fit(self.resources)
+    fn fits(&self, head: &Head, bound: u32, before: u64) -> bool {
+        in_turn(head.next.line, before, self.number) && self.ranges_fit(bound)
     }
 }
 
-impl Blank for Deal {
-    ghost blank = { zero_deal };
-
-    fn is_blank(&self) -> bool {
-        self.number == 0
-            && self.giver == 0
-            && self.taker == 0
-            && self.has_no_terms()
-            && self.has_no_cash()
+/// The place of the first row that breaks a rule.
+pub(crate) fn first_broken<R: Judged>(rows: &[R], head: &Head, bound: u32) -> Option<usize>
+    ensures { result ≡ first_broken R.Row.key (R.fits bound head.now) 0 0 rows.now }
+{
+    let mut before = 0;
+    for (place, row) in rows.iter().enumerate() {
+        if !row.fits(head, bound, before) {
+            return Some(place);
+        }
+        before = row.number() as u64;
     }
+    None
 }
 
-impl Blank for Line {
-    ghost blank = { zero_line };
+/// The place of the first row that is not an unused one.
+fn first_written<R: Row>(rows: &[R]) -> Option<usize>
+    ensures place { result ≡ position (λ x. not (R.eq x R.NONE)) rows.now }
+    ensures within { IfSome result (λ i. i < length rows.now) }
+{
+    rows.iter().position(|row| *row != R::NONE)
+}
 
-    fn is_blank(&self) -> bool {
-        self.number == 0
-            && self.deal == 0
-            && self.security == 0
-            && self.quantity == 0
-            && self.part == 0
-    }
+/// The place of the first row from there on that is not an unused one.
+pub(crate) fn first_set<R: Row>(rows: &[R], from: usize) -> Option<usize>
+    requires { from ≤ length rows.now }
+    ensures { result ≡ first_set R.blank from (drop from rows.now) }
+{
+    let place = first_written(&rows[from..])?;
+    Some(from + place)
 }

@@ -2,29 +2,37 @@
 ghost use Rattle.std.specs.Prelude.{◌≡◌};
 ghost use Rattle.memory.specs.Kinds.{table_number};
 
-#[derive(Clone, Copy)]
+#[derive(Clone, Copy, PartialEq, Eq, Debug)]
 pub enum Table {
-    Head,
-    Deals,
-    Lines,
-    Prices,
+    Head = 0,
+    Deals = 1,
+    Lines = 2,
+    Prices = 3,
 }
 
 impl Table {
+    ghost use Rattle.memory.specs.Register.{checked};
+    ghost use Rattle.memory.specs.Sound.{at};
+
     pub fn number(self) -> u32
         ensures { result ≡ table_number self }
     {
-        match self {
-            Table::Head => 0,
-            Table::Deals => 1,
-            Table::Lines => 2,
-            Table::Prices => 3,
+        self as u32
+    }
+
+    /// The fault of a table of which that row is the first broken one, if there is one.
+    pub(crate) fn sound_unless(self, broken: Option<usize>) -> Result<(), Fault>
+        ensures { result ≡ checked (at self broken) }
+    {
+        match broken {
+            Some(row) => Err(Fault { table: self, row }),
+            None => Ok(()),
         }
     }
 }
 
 /// The first rule that is broken, by its table and its row from 0.
-#[derive(Clone, Copy)]
+#[derive(Clone, Copy, PartialEq, Eq, Debug)]
 pub struct Fault {
     pub table: Table,
     pub row: usize,

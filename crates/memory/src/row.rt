@@ -3,39 +3,46 @@ ghost use Rattle.std.specs.Prelude.{◌≡◌};
 ghost use Rattle.memory.specs.Kinds.{phase_number, weighing_number, kind_number, sense_number, base_of};
 
 use sharing::DayBase;
+use std::fmt;
 use valuation::Currency;
 
-#[derive(Clone, Copy)]
+#[derive(Clone, Copy, PartialEq, Eq, Debug)]
 pub enum Phase {
-    Day,
-    DayEnd,
+    Day = 0,
+    DayEnd = 1,
 }
 
 impl Phase {
     pub fn number(self) -> u32
         ensures { result ≡ phase_number self }
     {
-        match self {
-            Phase::Day => 0,
-            Phase::DayEnd => 1,
-        }
+        self as u32
     }
 }
 
 /// How a deal's securities are valued.
-#[derive(Clone, Copy)]
+#[derive(Clone, Copy, PartialEq, Eq, Debug)]
 pub enum Weighing {
-    Margin,
-    Haircut,
+    Margin = 0,
+    Haircut = 1,
 }
 
 impl Weighing {
+    ghost use Rattle.memory.specs.Sound.{margin_fits};
+
     pub fn number(self) -> u32
         ensures { result ≡ weighing_number self }
     {
+        self as u32
+    }
+
+    /// Whether a margin is in its range, which with haircut is 0 alone.
+    pub fn admits_margin(self, margin: u16) -> bool
+        ensures { result ≡ margin_fits self margin }
+    {
         match self {
-            Weighing::Margin => 0,
-            Weighing::Haircut => 1,
+            Weighing::Margin => margin <= 5_000,
+            Weighing::Haircut => margin == 0,
         }
     }
 }
@@ -52,20 +59,20 @@ pub fn day_base(currency: Currency) -> DayBase
 }
 
 /// The numbers that the next deal and the next line get.
-#[derive(Clone, Copy)]
+#[derive(Clone, Copy, PartialEq, Eq, Debug)]
 pub struct Next {
     pub deal: u32,
     pub line: u32,
 }
 
 /// How many rows of each table are used.
-#[derive(Clone, Copy)]
+#[derive(Clone, Copy, PartialEq, Eq, Debug)]
 pub struct Used {
     pub deals: u32,
     pub lines: u32,
 }
 
-#[derive(Clone, Copy)]
+#[derive(Clone, Copy, PartialEq, Eq, Debug)]
 pub struct Head {
     pub date: u16,
     pub phase: Phase,
@@ -73,7 +80,7 @@ pub struct Head {
     pub used: Used,
 }
 
-#[derive(Clone, Copy)]
+#[derive(Clone, Copy, PartialEq, Eq, Debug)]
 pub struct Deal {
     pub number: u32,
     pub giver: u32,
@@ -97,7 +104,7 @@ pub struct Deal {
     pub residue: u64,
 }
 
-#[derive(Clone, Copy)]
+#[derive(Clone, Copy, PartialEq, Eq, Debug)]
 pub struct Line {
     /// The return number.
     pub number: u32,
@@ -108,50 +115,42 @@ pub struct Line {
     pub part: u64,
 }
 
-#[derive(Clone, Copy)]
+#[derive(Clone, Copy, PartialEq, Eq, Debug, Default)]
 pub enum Kind {
-    Settle,
-    Return,
-    Substitute,
-    Mark,
-    Pay,
+    #[default]
+    Settle = 1,
+    Return = 2,
+    Substitute = 3,
+    Mark = 4,
+    Pay = 5,
 }
 
 impl Kind {
     pub fn number(self) -> u32
         ensures { result ≡ kind_number self }
     {
-        match self {
-            Kind::Settle => 1,
-            Kind::Return => 2,
-            Kind::Substitute => 3,
-            Kind::Mark => 4,
-            Kind::Pay => 5,
-        }
+        self as u32
     }
 }
 
-#[derive(Clone, Copy)]
+#[derive(Clone, Copy, PartialEq, Eq, Debug, Default)]
 pub enum Sense {
-    Out,
-    Back,
-    Cash,
+    #[default]
+    Out = 0,
+    Back = 1,
+    Cash = 2,
 }
 
 impl Sense {
     pub fn number(self) -> u32
         ensures { result ≡ sense_number self }
     {
-        match self {
-            Sense::Out => 0,
-            Sense::Back => 1,
-            Sense::Cash => 2,
-        }
+        self as u32
     }
 }
 
 /// The record of one movement that a call made.
-#[derive(Clone, Copy)]
+#[derive(Clone, Copy, PartialEq, Eq, Debug, Default)]
 pub struct Slip {
     pub kind: Kind,
     pub sense: Sense,
@@ -199,3 +198,12 @@ pub const NO_SLIP: Slip = Slip {
     to: 0,
     amount: 0,
 };
+
+impl fmt::Display for Weighing {
+    fn fmt<W: fmt::Write>(&self, f: &mut fmt::Formatter<W>) -> fmt::Result {
+        match self {
+            Weighing::Margin => write!(f, "margin"),
+            Weighing::Haircut => write!(f, "haircut"),
+        }
+    }
+}

@@ -1,8 +1,8 @@
 //! The rules that a row is judged by.
 ghost use Rattle.std.specs.Prelude.{◌≡◌};
-ghost use Rattle.memory.specs.Sound.{margin_fits, parties_fit, terms_fit, interest_fits, numbered, ranges_fit, zero_terms, zero_cash, head_sound};
+ghost use Rattle.memory.specs.Sound.{parties_fit, terms_fit, interest_fits, numbered, ranges_fit, head_sound};
 
-use crate::row::{Deal, Head, Line, Weighing, day_base};
+use crate::row::{Deal, Head, Line, day_base};
 
 /// Next numbers from 1, and no more used rows than the tables have.
 pub(crate) fn head_sound(head: &Head, deal_rows: usize, line_rows: usize) -> bool
@@ -21,15 +21,6 @@ pub(crate) fn in_turn(next: u32, before: u64, number: u32) -> bool
     before < number as u64 && number < next
 }
 
-fn margin_fits(weighing: Weighing, margin: u16) -> bool
-    ensures { result ≡ margin_fits weighing margin }
-{
-    match weighing {
-        Weighing::Margin => margin <= 5_000,
-        Weighing::Haircut => margin == 0,
-    }
-}
-
 impl Deal {
     pub(crate) fn parties_fit(&self, accounts: u32) -> bool
         ensures { result ≡ parties_fit accounts self.now }
@@ -40,7 +31,7 @@ impl Deal {
     pub(crate) fn terms_fit(&self) -> bool
         ensures { result ≡ terms_fit self.now }
     {
-        margin_fits(self.weighing, self.margin)
+        self.weighing.admits_margin(self.margin)
             && self.sought >= 1
             && self.sought <= 1_000_000_000_000
             && self.rate <= 200_000
@@ -52,25 +43,6 @@ impl Deal {
     {
         self.whole <= 600_000_000 * date as u64
             && self.residue < day_base(self.currency).days() * 1_000_000
-    }
-
-    pub(crate) fn has_no_terms(&self) -> bool
-        ensures { result ≡ zero_terms self.now }
-    {
-        self.currency.number() == 0
-            && self.class == 0
-            && self.weighing.number() == 0
-            && self.margin == 0
-            && self.sought == 0
-            && self.rate == 0
-            && self.due == 0
-            && !self.limit
-    }
-
-    pub(crate) fn has_no_cash(&self) -> bool
-        ensures { result ≡ zero_cash self.now }
-    {
-        self.cash == 0 && self.whole == 0 && self.residue == 0
     }
 }
 

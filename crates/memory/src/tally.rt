@@ -1,37 +1,22 @@
 //! The parts of the lines, summed for all deals in one pass.
-ghost use Rattle.std.specs.Prelude.{◌≡◌, ℕ, ◌+◌, ◌<◌, ◌≤◌, map, length, drop};
-ghost use Rattle.std.specs.Option.{option_or};
+ghost use Rattle.std.specs.Prelude.{◌≡◌};
 ghost use Rattle.memory.specs.Places.{Rising};
 ghost use Rattle.memory.specs.Sound.{first_set};
-ghost use Rattle.memory.specs.Tally.{with_parts, names};
+ghost use Rattle.memory.specs.Tally.{with_part, with_parts, names};
 
-use crate::finding::{Keyed, find};
 use crate::row::Line;
 
-/// Adds the part of the line at `place` to the sum of its deal, and answers the first line so far whose deal is
-/// not one of the first `count`.
-fn add_at(
-    keys: &[u64; 64],
-    count: usize,
-    sums: &mut [u64; 64],
-    lines: &[Line],
-    place: usize,
-    loose: Option<usize>,
-) -> Option<usize>
-    requires { (place < length lines.now) × (Rising keys.now) }
-    ensures sums { with_parts keys.now sums.new (drop (place + 1) lines.now) ≡ with_parts keys.now sums.old (drop place lines.now) }
-    ensures loose { option_or result (first_set (names keys.now count) (place + 1) (drop (place + 1) lines.now)) ≡ option_or loose (first_set (names keys.now count) place (drop place lines.now)) }
+/// Adds the part of a line to the sum of its deal, and answers whether that is one of the first `count`.
+fn add_part(keys: &[u64; 64], count: usize, sums: &mut [u64; 64], line: &Line) -> bool
+    requires { Rising keys.now }
+    ensures sums { sums.new ≡ with_part keys.now line.now sums.old }
+    ensures stands { result ≡ names keys.now count line.now }
 {
-    let line = lines[place];
-    let Some(row) = find(keys, line.deal as u64) else {
-        return loose.or(Some(place));
+    let Ok(row) = keys.binary_search(&(line.deal as u64)) else {
+        return false;
     };
     sums[row] = sums[row].saturating_add(line.part);
-    if row < count {
-        loose
-    } else {
-        loose.or(Some(place))
-    }
+    row < count
 }
 
 /// Adds the part of each line to the sum of its deal, and answers the first line whose deal is not one of the
@@ -46,9 +31,12 @@ pub(crate) fn tally(
     ensures sums { sums.new ≡ with_parts keys.now sums.old lines.now }
     ensures loose { result ≡ first_set (names keys.now count) 0 lines.now }
 {
+    // Keys and sums lie apart: the search by halves goes over the keys as a list by itself.
     let mut loose = None;
-    for place in 0..lines.len() {
-        loose = add_at(keys, count, sums, lines, place, loose);
+    for (place, line) in lines.iter().enumerate() {
+        if !add_part(keys, count, sums, line) {
+            loose = loose.or(Some(place));
+        }
     }
     loose
 }

@@ -1,52 +1,36 @@
--- Quantities of lines, line by line and over the securities. Assumes nothing.
-use Rattle.std.proofs.Common.{◌≡◌, ℕ, zero, suc, ◌+◌, ◌-◌, ◌<◌, ◌≤◌, Bool, true, false, cond, List, [], ◌∷◌, length, get_or, take, IfNone, Some, None, Option, sym, refl, ap, ◌∙◌, zero-add, arith}
+-- Quantities of lines: that they fit, and over the securities. Assumes nothing.
+use Rattle.std.proofs.Common.{◌≡◌, ℕ, zero, suc, ◌+◌, ◌-◌, ◌^◌, ◌<◌, ◌≤◌, Bool, not, sum_by, filter, List, [], ◌∷◌, Some, None, Option, sym, refl, arith}
 use Rattle.book.proofs.Totals.{sum_below_same, sum_below_one}
 use Rattle.book.specs.Totals.{sum_below}
-use Rattle.std.proofs.lemmas.List.Elements.{filter_more}
-use Rattle.std.proofs.ByRecursion.{All-get_or, All-weaker, all_kept_by}
-use Rattle.std.proofs.lemmas.List.{length-take, get_or-take}
-use Rattle.std.proofs.lemmas.List.Sums.{sum_by-append, sum_by-cons}
+use Rattle.std.proofs.ByRecursion.{All-weaker as weaker, all_kept_by}
+use Rattle.std.proofs.lemmas.List.Elements.{All-weaker, All-from_recursion}
+use Rattle.std.proofs.lemmas.List.Filters.{sum_by-filter_both}
+use Rattle.std.proofs.lemmas.List.{length-take}
+use Rattle.std.proofs.lemmas.List.Sums.{sum_by-le, sum_by-cons}
 use Rattle.std.proofs.lemmas.Bool.Decides.{nat_tests}
 use Rattle.std.specs.List.{AllByRecursion as Each}
 use Rattle.memory.specs.declared.row.Deal.{Deal}
 use Rattle.memory.specs.declared.row.Head.{Head}
 use Rattle.memory.specs.declared.row.Line.{Line}
-use Rattle.memory.specs.declared.place.Fault.{Fault}
-use Rattle.memory.specs.Register.{Sound, Told}
-use Rattle.memory.specs.Rows.{no_line}
+use Rattle.memory.specs.Register.{Sound}
 use Rattle.memory.specs.Sound.{used_deals, used_lines}
 use Rattle.valuation.specs.Most.{most_units}
-use Rattle.panel.specs.declared.party.Party.{Party}
 use Rattle.panel.specs.Standing.{on_side, lines_of, quantity_of, quantity_on, Orderly, Whole}
 
--- ── line by line ──
-
-one : (o : Option ℕ) (b : Bool) (l : Line) → quantity_on o (cond b (l ∷ []) []) ≡ cond b (quantity_of o l) 0
-one o true l = zero-add (quantity_of o l)
-one o false l = refl
-
-module _ (o : Option ℕ) (p : Party) (account : ℕ) (ds : List Deal) (ls : List Line) (i : ℕ) where
-  pub quantity_more : i < length ls → quantity_on o (lines_of p account ds (take (i + 1) ls)) ≡ quantity_on o (lines_of p account ds (take i ls)) + cond (on_side p account ds (get_or ls i no_line)) (quantity_of o (get_or ls i no_line)) 0
-  quantity_more h =
-      let l = get_or ls i no_line in
-      ap (quantity_on o) (filter_more (on_side p account ds) ls i no_line h)
-      ∙ sum_by-append (quantity_of o) (lines_of p account ds (take i ls)) (cond (on_side p account ds l) (l ∷ []) [])
-      ∙ ap (λ n. quantity_on o (lines_of p account ds (take i ls)) + n) (one o (on_side p account ds l) l)
+-- ── what fits ──
 
 quantity_low : (o : Option ℕ) (l : Line) → l.quantity ≤ most_units → quantity_of o l ≤ most_units
 quantity_low (Some s) l h = grind (arith, nat_tests)
 quantity_low None l h = h
 
-counted_low : (o : Option ℕ) (b : Bool) (l : Line) → l.quantity ≤ most_units → cond b (quantity_of o l) 0 ≤ most_units
-counted_low o true l h = quantity_low o l h
-counted_low o false l h = omega arith
-
-pub counted_most : (o : Option ℕ) (b : Bool) (h : Head) (deals : List Deal) (lines : List Line) (i : ℕ) → Orderly h deals lines → i < h.used.lines → cond b (quantity_of o (get_or lines i no_line)) 0 ≤ most_units
-counted_most o b h deals lines i ok less =
+-- what stands on any of the used lines is within 1024 times the most of a line
+pub quantity_fits : (o : Option ℕ) (f : Line → Bool) (h : Head) (deals : List Deal) (lines : List Line) → Orderly h deals lines → sum_by (quantity_of o) (filter f (used_lines h lines)) < 2 ^ 64
+quantity_fits o f h deals lines ok =
+    let ls = used_lines h lines in
+    let parts = sum_by-filter_both f (λ l. not (f l)) (λ l. refl) (quantity_of o) ls in
+    let all = sum_by-le (quantity_of o) most_units ls (All-weaker _ _ (quantity_low o) ls ok.each) in
     let long = length-take h.used.lines lines in
-    let is = get_or-take h.used.lines lines i no_line less in
-    let low = All-get_or (λ l. l.quantity ≤ most_units) (used_lines h lines) i no_line (omega (arith, ok.within)) ok.each in
-    counted_low o b (get_or lines i no_line) (omega (arith, low, ap (λ (l : Line). l.quantity) is))
+    omega (arith, parts, all, long, ok.few)
 
 -- ── over the securities ──
 
@@ -90,7 +74,7 @@ module _ (resources : ℕ) where
           rise = s.deal_table.rise;
           few = omega (arith, s.line_table.within, s.line_table.few);
           within = s.line_table.within;
-          each = All-weaker _ _ (λ l ok. ok.quantity_most) (used_lines h lines) s.line_table.each;
+          each = All-from_recursion _ (used_lines h lines) (weaker _ _ (λ l ok. ok.quantity_most) (used_lines h lines) s.line_table.each);
         }
 
     pub sound_whole : Whole resources h deals lines
@@ -99,15 +83,5 @@ module _ (resources : ℕ) where
           total = λ p account.
               lines_total (lines_of p account (used_deals h deals) (used_lines h lines))
               (all_kept_by (on_side p account (used_deals h deals)) Listed (used_lines h lines)
-              (All-weaker _ _ (λ l ok. (ok.security_some, ok.security_below)) (used_lines h lines) s.line_table.each));
+              (weaker _ _ (λ l ok. (ok.security_some, ok.security_below)) (used_lines h lines) s.line_table.each));
         }
-
--- ── where no fault is found ──
-
-pub told_orderly : (o : Option Fault) (accounts resources : ℕ) (h : Head) (deals : List Deal) (lines : List Line) → Told o accounts resources h deals lines → IfNone o (Orderly h deals lines)
-told_orderly None a r h ds ls s = sound_orderly r a h ds ls s
-told_orderly (Some f) a r h ds ls s = tt
-
-pub told_whole : (o : Option Fault) (accounts resources : ℕ) (h : Head) (deals : List Deal) (lines : List Line) → Told o accounts resources h deals lines → IfNone o (Whole resources h deals lines)
-told_whole None a r h ds ls s = sound_whole r a h ds ls s
-told_whole (Some f) a r h ds ls s = tt

@@ -1,6 +1,5 @@
 -- What stands on the lines of deals that an account is a party to.
-use Rattle.std.specs.Prelude.{◌≡◌, ℕ, ◌+◌, ◌-◌, ◌≤◌, Bool, false, cond, List, [], ◌∷◌, ◌++◌, length, take, drop, Some, None, sum_by, filter, Option, ◌==◌}
-use Rattle.std.specs.List.{AllByRecursion as Each}
+use Rattle.std.specs.Prelude.{◌≡◌, ℕ, ◌+◌, ◌-◌, ◌≤◌, Bool, false, cond, List, [], ◌∷◌, ◌++◌, length, take, drop, Some, None, sum_by, filter, Option, All, ◌==◌}
 use Rattle.book.specs.Totals.{sum_below}
 use Rattle.memory.specs.declared.row.Deal.{Deal}
 use Rattle.memory.specs.declared.row.Head.{Head}
@@ -67,7 +66,7 @@ pub record Orderly (h : Head) (deals : List Deal) (lines : List Line) : Type 0 w
   pub rise : Rising (deal_numbers h deals)
   pub few : h.used.lines ≤ 1024
   pub within : h.used.lines ≤ length lines
-  pub each : Each (λ l. l.quantity ≤ most_units) (used_lines h lines)
+  pub each : All (λ l. l.quantity ≤ most_units) (used_lines h lines)
 
 -- every line is in one of the securities
 pub record Whole (resources : ℕ) (h : Head) (deals : List Deal) (lines : List Line) : Type 0 where

@@ -1,15 +1,16 @@
 //! What the front panel answers.
-ghost use Rattle.std.specs.Prelude.{◌≡◌, IfNone};
+ghost use Rattle.std.specs.Prelude.{◌≡◌, IfOk};
+ghost use Rattle.std.specs.Result.{result_err};
 ghost use Rattle.memory.specs.Register.{Told};
+ghost use Rattle.memory.specs.Sound.{fault_of};
 ghost use Rattle.panel.specs.Asking.{refusal_of, position_in, owed_to, open_count, open_listed};
 ghost use Rattle.panel.specs.Standing.{Orderly, Whole};
 
-use crate::listing::list_lines;
-use crate::party::Party;
+use crate::party::Holder;
 use crate::refusal::PanelRefusal;
-use crate::standing::quantity;
+use crate::standing::StandingRows;
 use book::Book;
-use memory::{Deal, Fault, Head, Line, fault};
+use memory::{Line, Register};
 
 /// What stands of a security for an account.
 #[derive(Clone, Copy)]
@@ -20,66 +21,35 @@ pub struct Position {
     pub taken: u64,
 }
 
-/// The first fault, with what it says of the rows that are looked at here.
-fn tell(
-    head: &Head,
-    deals: &[Deal],
-    lines: &[Line],
-    accounts: u32,
-    resources: u32,
-    first: Option<Fault>,
-) -> Option<Fault>
-    requires { Told first accounts resources head.now deals.now lines.now }
-    ensures answer { result ≡ first }
-    ensures orderly { IfNone result (Orderly head.now deals.now lines.now) }
-    ensures whole { IfNone result (Whole resources head.now deals.now lines.now) }
+/// Whether the panel answers, where what is asked about is inside the book or not.
+fn check<B: Book>(book: &B, register: Register, inside: bool) -> Result<(), PanelRefusal>
+    ensures answer { result_err result ≡ refusal_of (B.Book.meaning book.now) register.entry.head.now register.entry.deals.now register.entry.lines.now inside }
+    ensures orderly { IfOk result (λ _. Orderly register.entry.head.now register.entry.deals.now register.entry.lines.now) }
+    ensures whole { IfOk result (λ _. Whole (B.Book.meaning book.now).resources register.entry.head.now register.entry.deals.now register.entry.lines.now) }
 {
-    first
-}
-
-/// Why the panel does not answer, where what is asked about is inside the book or not.
-fn refusal<B: Book>(
-    book: &B,
-    head: &Head,
-    deals: &[Deal],
-    lines: &[Line],
-    inside: bool,
-) -> Option<PanelRefusal>
-    ensures answer { result ≡ refusal_of (B.Book.meaning book.now) head.now deals.now lines.now inside }
-    ensures orderly { IfNone result (Orderly head.now deals.now lines.now) }
-    ensures whole { IfNone result (Whole (B.Book.meaning book.now).resources head.now deals.now lines.now) }
-{
-    let accounts = book.accounts();
-    let resources = book.resources();
-    let first = fault(head, deals, lines, accounts, resources);
-    if let Some(broken) = tell(head, deals, lines, accounts, resources, first) {
-        return Some(PanelRefusal::Broken(broken));
-    }
+    register.check(book.accounts(), book.resources())?;
     if !inside {
-        return Some(PanelRefusal::Outside);
+        return Err(PanelRefusal::Outside);
     }
-    None
+    Ok(())
 }
 
 /// What stands of a security for an account. Refused by 1 where the register breaks a rule, and by 41 where the
 /// account or the security is not of the book.
 pub fn position_of<B: Book>(
     book: &B,
-    head: &Head,
-    deals: &[Deal],
-    lines: &[Line],
+    register: Register,
     account: u32,
     security: u32,
 ) -> Result<Position, PanelRefusal>
-    ensures { result ≡ position_in (B.Book.meaning book.now) head.now deals.now lines.now account security }
+    ensures { result ≡ position_in (B.Book.meaning book.now) register.entry.head.now register.entry.deals.now register.entry.lines.now account security }
 {
     let inside = account < book.accounts() && security >= 3 && security < book.resources();
-    if let Some(refusal) = refusal(book, head, deals, lines, inside) {
-        return Err(refusal);
-    }
+    check(book, register, inside)?;
+    let rows = StandingRows { register };
     Ok(Position {
-        given: quantity(Party::Giver, head, deals, lines, account, Some(security)),
-        taken: quantity(Party::Taker, head, deals, lines, account, Some(security)),
+        given: rows.quantity(Holder::giver(account), Some(security)),
+        taken: rows.quantity(Holder::taker(account), Some(security)),
     })
 }
 
@@ -87,17 +57,14 @@ pub fn position_of<B: Book>(
 /// 41 where the account is not of the book.
 pub fn still_to_come_back<B: Book>(
     book: &B,
-    head: &Head,
-    deals: &[Deal],
-    lines: &[Line],
+    register: Register,
     account: u32,
 ) -> Result<u64, PanelRefusal>
-    ensures { result ≡ owed_to (B.Book.meaning book.now) head.now deals.now lines.now account }
+    ensures { result ≡ owed_to (B.Book.meaning book.now) register.entry.head.now register.entry.deals.now register.entry.lines.now account }
 {
-    if let Some(refusal) = refusal(book, head, deals, lines, account < book.accounts()) {
-        return Err(refusal);
-    }
-    Ok(quantity(Party::Giver, head, deals, lines, account, None))
+    check(book, register, account < book.accounts())?;
+    let rows = StandingRows { register };
+    Ok(rows.quantity(Holder::giver(account), None))
 }
 
 /// The lines that are to come back to an account, in the order of their table. They are written to `places`, as many
@@ -105,17 +72,14 @@ pub fn still_to_come_back<B: Book>(
 /// 41 where the account is not of the book; then nothing is written.
 pub fn open_returns<B: Book>(
     book: &B,
-    head: &Head,
-    deals: &[Deal],
-    lines: &[Line],
+    register: Register,
     account: u32,
     places: &mut [Line],
 ) -> Result<usize, PanelRefusal>
-    ensures answer { result ≡ open_count (B.Book.meaning book.now) head.now deals.now lines.now account }
-    ensures places { places.new ≡ open_listed (B.Book.meaning book.now) head.now deals.now lines.now account places.old }
+    ensures answer { result ≡ open_count (B.Book.meaning book.now) register.entry.head.now register.entry.deals.now register.entry.lines.now account }
+    ensures places { places.new ≡ open_listed (B.Book.meaning book.now) register.entry.head.now register.entry.deals.now register.entry.lines.now account places.old }
 {
-    if let Some(refusal) = refusal(book, head, deals, lines, account < book.accounts()) {
-        return Err(refusal);
-    }
-    Ok(list_lines(Party::Giver, head, deals, lines, account, places))
+    check(book, register, account < book.accounts())?;
+    let rows = StandingRows { register };
+    Ok(rows.list(Holder::giver(account), places))
 }

@@ -2,7 +2,6 @@
 #![tactic(auto)]
 
 mod asking;
-mod listing;
 mod party;
 mod refusal;
 mod standing;

@@ -1,10 +1,9 @@
 //! The two parties to a deal.
 ghost use Rattle.std.specs.Prelude.{◌≡◌};
-ghost use Rattle.memory.specs.Places.{Rising, deal_numbers};
-ghost use Rattle.memory.specs.Sound.{used_deals};
-ghost use Rattle.panel.specs.Standing.{party_of, is_party};
+ghost use Rattle.panel.specs.declared.party.Party.TheVariants.{Giver, Taker};
+ghost use Rattle.panel.specs.Standing.{party_of};
 
-use memory::{Deal, Head, find_deal};
+use memory::Deal;
 
 #[derive(Clone, Copy)]
 pub enum Party {
@@ -13,7 +12,7 @@ pub enum Party {
 }
 
 impl Party {
-    fn of(self, deal: &Deal) -> u32
+    pub(crate) fn of(self, deal: &Deal) -> u32
         ensures { result ≡ party_of self deal.now }
     {
         match self {
@@ -21,15 +20,33 @@ impl Party {
             Party::Taker => deal.taker,
         }
     }
+}
 
-    /// Whether the standing deal of that number has the account for this party.
-    pub(crate) fn is(self, head: &Head, deals: &[Deal], number: u32, account: u32) -> bool
-        requires { Rising (deal_numbers head.now deals.now) }
-        ensures { result ≡ is_party self account number (used_deals head.now deals.now) }
+/// An account, as one of the parties.
+#[derive(Clone, Copy)]
+pub(crate) struct Holder {
+    pub(crate) party: Party,
+    pub(crate) account: u32,
+}
+
+impl Holder {
+    pub(crate) fn giver(account: u32) -> Holder
+        ensures party { result.party ≡ Giver }
+        ensures account { result.account ≡ account }
     {
-        let Some(row) = find_deal(head, deals, number) else {
-            return false;
-        };
-        self.of(&deals[row]) == account
+        Holder {
+            party: Party::Giver,
+            account,
+        }
+    }
+
+    pub(crate) fn taker(account: u32) -> Holder
+        ensures party { result.party ≡ Taker }
+        ensures account { result.account ≡ account }
+    {
+        Holder {
+            party: Party::Taker,
+            account,
+        }
     }
 }

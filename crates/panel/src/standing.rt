@@ -1,11 +1,19 @@
-//! What stands on lines.
-ghost use Rattle.std.specs.Prelude.{◌≡◌, if◌then◌else◌};
-ghost use Rattle.memory.specs.Places.{Rising, deal_numbers};
+//! The rows that stand, and what stands on them.
+ghost use Rattle.std.specs.Prelude.{◌≡◌, ◌^◌, ◌<◌};
 ghost use Rattle.memory.specs.Sound.{used_deals, used_lines};
-ghost use Rattle.panel.specs.Standing.{on_side, lines_of, quantity_of, quantity_on, Orderly};
+ghost use Rattle.panel.specs.Standing.{is_party, lines_of, quantity_of, quantity_on, Orderly};
 
-use crate::party::Party;
-use memory::{Deal, Head, Line};
+use crate::party::Holder;
+use memory::{Line, Register, find};
+
+mod listing;
+
+/// The rows of a register that breaks no rule.
+#[derive(Clone, Copy)]
+pub(crate) struct StandingRows<'a> {
+    pub(crate) register: Register<'a>,
+    ghost orderly: { Orderly register.head.now register.deals.now register.lines.now },
+}
 
 fn quantity_of(line: &Line, security: Option<u32>) -> u64
     ensures { result ≡ quantity_of security line.now }
@@ -20,40 +28,39 @@ fn quantity_of(line: &Line, security: Option<u32>) -> u64
     }
 }
 
-/// What a line counts for the account as that party.
-fn counted(
-    party: Party,
-    head: &Head,
-    deals: &[Deal],
-    line: &Line,
-    account: u32,
-    security: Option<u32>,
-) -> u64
-    requires { Rising (deal_numbers head.now deals.now) }
-    ensures { result ≡ (if on_side party account (used_deals head.now deals.now) line.now then quantity_of security line.now else 0) }
-{
-    if party.is(head, deals, line.deal, account) {
-        quantity_of(line, security)
-    } else {
-        0
+impl StandingRows<'_> {
+    /// Whether the standing deal of that number has the holder.
+    fn has(&self, holder: Holder, number: u32) -> bool
+        ensures { result ≡ is_party holder.party holder.account number (used_deals self.now.register.head.now self.now.register.deals.now) }
+    {
+        let Some(row) = find(self.register.head, self.register.deals, number) else {
+            return false;
+        };
+        holder.party.of(&self.register.deals[row]) == holder.account
     }
-}
 
-/// What stands for the account as that party, of a security or, where none is named, of all.
-pub(crate) fn quantity(
-    party: Party,
-    head: &Head,
-    deals: &[Deal],
-    lines: &[Line],
-    account: u32,
-    security: Option<u32>,
-) -> u64
-    requires { Orderly head.now deals.now lines.now }
-    ensures { result ≡ quantity_on security (lines_of party account (used_deals head.now deals.now) (used_lines head.now lines.now)) }
-{
-    let mut sum = 0;
-    for place in 0..head.used.lines as usize {
-        sum += counted(party, head, deals, &lines[place], account, security);
+    fn used_lines(&self) -> &[Line]
+        ensures { result.now ≡ used_lines self.now.register.head.now self.now.register.lines.now }
+    {
+        &self.register.lines[..self.register.head.used.lines as usize]
     }
-    sum
+
+    /// What stands for the holder, of a security or, where none is named, of all.
+    pub(crate) fn quantity(&self, holder: Holder, security: Option<u32>) -> u64
+        ensures { result ≡ quantity_on security (lines_of holder.party holder.account (used_deals self.now.register.head.now self.now.register.deals.now) (used_lines self.now.register.head.now self.now.register.lines.now)) }
+    {
+        self.counted(holder, security)
+    }
+
+    /// The same, where it fits.
+    fn counted(&self, holder: Holder, security: Option<u32>) -> u64
+        requires { quantity_on security (lines_of holder.party holder.account (used_deals self.now.register.head.now self.now.register.deals.now) (used_lines self.now.register.head.now self.now.register.lines.now)) < 2 ^ 64 }
+        ensures { result ≡ quantity_on security (lines_of holder.party holder.account (used_deals self.now.register.head.now self.now.register.deals.now) (used_lines self.now.register.head.now self.now.register.lines.now)) }
+    {
+        self.used_lines()
+            .iter()
+            .filter(|line| self.has(holder, line.deal))
+            .map(|line| quantity_of(line, security))
+            .sum()
+    }
 }

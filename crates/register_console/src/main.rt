@@ -3,11 +3,12 @@
 
 mod output;
 mod register;
-mod session;
+mod register_console;
 mod showing;
 
 use anyhow::anyhow;
-use session::run;
+use booking::run;
+use register_console::RegisterConsole;
 use std::io::{BufWriter, Read, Write};
 
 fn main(rt: HostRuntime) -> anyhow::Result<()> {
@@ -15,7 +16,8 @@ fn main(rt: HostRuntime) -> anyhow::Result<()> {
     let mut text = Vec::new(heap);
     rt.stdin().read_to_end(&mut text)?;
     let mut out = BufWriter::new(heap, rt.stdout())?;
-    let understood = run(heap, &mut out, &text)?;
+    let console = RegisterConsole { heap };
+    let understood = run(heap, &console, &mut out, &text)?;
     out.flush()?;
     if !understood {
         return Err(anyhow!("a command was not understood"));

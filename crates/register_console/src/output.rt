@@ -1,77 +1,39 @@
-//! What is written of a command, and of a book.
-use book::Book;
-use commands::Answer;
+//! What is written of a command.
+use booking::{Asked, report, report_misplaced};
+use commands::Unobeyed;
 use sides::Refusal;
-use std::io;
 use std::io::Write;
-use text::Reader;
+use std::{fmt, io};
 
-/// Writes `N WORD` and what came of it.
-pub fn report<W: Write>(out: &mut W, number: usize, line: &[u8], answer: Answer) -> io::Result<()> {
-    let word = Reader::over(line).word();
-    if let Answer::Misplaced = answer {
-        write!(out, "{number} ? ")?;
-        out.write_all(word)?;
-        return writeln!(out);
-    }
-    write!(out, "{number} ")?;
-    out.write_all(word)?;
-    match answer {
-        Answer::ByBook(refusal) => {
-            let code = refusal.number();
-            writeln!(out, " refused {code}")
-        }
-        Answer::ByRegister(refusal) => write_refusal(out, refusal),
-        _ => writeln!(out, " ok 0"),
-    }
-}
+/// A refusal as it is written: by its number, and its place where it has one.
+#[derive(Clone, Copy)]
+struct RefusalText(Refusal);
 
-/// Writes a refusal by its number, and its place where it has one.
-fn write_refusal<W: Write>(out: &mut W, refusal: Refusal) -> io::Result<()> {
-    let code = refusal.number();
-    match refusal {
-        Refusal::Broken(fault) => {
-            let table = fault.table.number();
-            let row = fault.row;
-            writeln!(out, " refused {code} {table} {row}")
-        }
-        Refusal::Book(refused) => {
-            let place = refused.place;
-            let number = refused.refusal.number();
-            writeln!(out, " refused {code} {place} {number}")
-        }
-        _ => writeln!(out, " refused {code}"),
-    }
-}
-
-/// Writes the movements left and every amount above 0.
-pub fn show_book<B: Book, W: Write>(out: &mut W, number: usize, book: &B) -> io::Result<()> {
-    let left = book.movements_left();
-    writeln!(out, "{number} show ok movements left {left}")?;
-    show_amounts(out, book)
-}
-
-/// Writes every amount above 0, by rising account and resource.
-pub fn show_amounts<B: Book, W: Write>(out: &mut W, book: &B) -> io::Result<()> {
-    for account in 0..book.accounts() {
-        for resource in 0..book.resources() {
-            if let Some(amount) = book.amount(account, resource) {
-                show_amount(out, account, resource, amount)?;
+impl fmt::Display for RefusalText {
+    fn fmt<W: fmt::Write>(&self, f: &mut fmt::Formatter<W>) -> fmt::Result {
+        let code = self.0.number();
+        match self.0 {
+            Refusal::Broken(fault) => {
+                let table = fault.table.number();
+                let row = fault.row;
+                write!(f, "{code} {table} {row}")
             }
+            Refusal::Book(refused) => {
+                let place = refused.place;
+                let number = refused.refusal.number();
+                write!(f, "{code} {place} {number}")
+            }
+            _ => write!(f, "{code}"),
         }
     }
-    Ok(())
 }
 
-fn show_amount<W: Write>(out: &mut W, account: u32, resource: u32, amount: u64) -> io::Result<()> {
-    if amount == 0 {
-        return Ok(());
-    }
-    write!(out, "  amount account {account} resource ")?;
-    match resource {
-        0 => writeln!(out, "GBP {amount}"),
-        1 => writeln!(out, "EUR {amount}"),
-        2 => writeln!(out, "USD {amount}"),
-        _ => writeln!(out, "{resource} {amount}"),
+/// Writes what came of a command; whether it was understood.
+pub fn tell<W: Write>(out: &mut W, asked: Asked, answer: Result<(), Unobeyed>) -> io::Result<bool> {
+    match answer {
+        Ok(()) => report(out, asked, Ok::<(), u32>(())),
+        Err(Unobeyed::ByBook(refusal)) => report(out, asked, Err(refusal.number())),
+        Err(Unobeyed::ByRegister(refusal)) => report(out, asked, Err(RefusalText(refusal))),
+        Err(Unobeyed::Misplaced) => report_misplaced(out, asked),
     }
 }

@@ -1,7 +1,7 @@
 //! The register's memory, lent by the console, and what the console has in hand.
 use book::Book;
-use commands::{Answer, Hand, act};
-use memory::{Deal, Head, Line, NO_DEAL, NO_LINE, NO_SLIP, Next, Phase, Slip, Used, begin, fault};
+use commands::{Hand, Unobeyed, act};
+use memory::{Deal, Head, Line, NO_DEAL, NO_LINE, NO_SLIP, Next, Phase, Slip, Used, begin};
 use register_script::{Beginning, Command};
 use std::alloc::{AllocError, Global};
 use valuation::Price;
@@ -49,20 +49,26 @@ impl Register {
         })
     }
 
-    pub fn begin(&mut self, date: u16) -> Answer {
-        Answer::of_fault(begin(&mut self.head, &mut self.deals, &mut self.lines, date))
+    pub fn begin(&mut self, date: u16) -> Result<(), Unobeyed> {
+        Ok(begin(&mut self.head, &mut self.deals, &mut self.lines, date)?)
+    }
+
+    /// What is looked at of it.
+    pub fn lent(&self) -> memory::Register<'_> {
+        memory::Register {
+            head: &self.head,
+            deals: &self.deals,
+            lines: &self.lines,
+        }
     }
 
     /// Carries out a command on the register.
-    pub fn obey<B: Book>(&mut self, book: &B, command: Command) -> Answer {
+    pub fn obey<B: Book>(&mut self, book: &B, command: Command) -> Result<(), Unobeyed> {
         match command {
-            Command::Show => Answer::of_fault(fault(
-                &self.head,
-                &self.deals,
-                &self.lines,
-                book.accounts(),
-                book.resources(),
-            )),
+            Command::Book(script::Command::Show) => {
+                self.lent().check(book.accounts(), book.resources())?;
+                Ok(())
+            }
             Command::Register(command) => act(
                 book,
                 &mut self.head,
@@ -72,7 +78,7 @@ impl Register {
                 &mut self.hand,
                 command,
             ),
-            _ => Answer::Misplaced,
+            _ => Err(Unobeyed::Misplaced),
         }
     }
 }

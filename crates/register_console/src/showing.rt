@@ -1,88 +1,65 @@
 //! What is written of a register that stands.
-use crate::output::show_amounts;
 use crate::register::Register;
 use book::Book;
-use memory::{Deal, Line, Weighing};
+use booking::show_amounts;
+use memory::{Deal, Line};
 use panel::{Position, position_of, still_to_come_back};
-use std::io;
 use std::io::Write;
-use valuation::Currency;
+use std::{fmt, io};
 
-fn currency_name(currency: Currency) -> &'static str {
-    match currency {
-        Currency::Gbp => "GBP",
-        Currency::Eur => "EUR",
-        Currency::Usd => "USD",
+/// A deal as it is written.
+#[derive(Clone, Copy)]
+struct DealText<'a>(&'a Deal);
+
+impl<'a> fmt::Display for DealText<'a> {
+    fn fmt<W: fmt::Write>(&self, f: &mut fmt::Formatter<W>) -> fmt::Result {
+        let Deal {
+            number,
+            giver,
+            taker,
+            currency,
+            class,
+            weighing,
+            margin,
+            sought,
+            rate,
+            due,
+            limit,
+            cash,
+            whole,
+            residue,
+        } = *self.0;
+        let limit = if limit { "yes" } else { "no" };
+        write!(
+            f,
+            "deal {number} giver {giver} taker {taker} {currency} class {class} {weighing} "
+        )?;
+        write!(
+            f,
+            "margin {margin} sought {sought} rate {rate} return {due} limit {limit} "
+        )?;
+        write!(f, "cash {cash} whole {whole} residue {residue}")
     }
 }
 
-fn weighing_name(weighing: Weighing) -> &'static str {
-    match weighing {
-        Weighing::Margin => "margin",
-        Weighing::Haircut => "haircut",
+/// A line as it is written.
+#[derive(Clone, Copy)]
+struct LineText<'a>(&'a Line);
+
+impl<'a> fmt::Display for LineText<'a> {
+    fn fmt<W: fmt::Write>(&self, f: &mut fmt::Formatter<W>) -> fmt::Result {
+        let Line {
+            number,
+            deal,
+            security,
+            quantity,
+            part,
+        } = *self.0;
+        write!(
+            f,
+            "line {number} deal {deal} security {security} quantity {quantity} part {part}"
+        )
     }
-}
-
-fn show_deal<W: Write>(out: &mut W, deal: &Deal) -> io::Result<()> {
-    let Deal {
-        number,
-        giver,
-        taker,
-        currency,
-        class,
-        weighing,
-        margin,
-        sought,
-        rate,
-        due,
-        limit,
-        cash,
-        whole,
-        residue,
-    } = *deal;
-    let currency = currency_name(currency);
-    let weighing = weighing_name(weighing);
-    let limit = if limit { "yes" } else { "no" };
-    write!(
-        out,
-        "  deal {number} giver {giver} taker {taker} {currency} class {class} "
-    )?;
-    write!(
-        out,
-        "{weighing} margin {margin} sought {sought} rate {rate} return {due} "
-    )?;
-    writeln!(
-        out,
-        "limit {limit} cash {cash} whole {whole} residue {residue}"
-    )
-}
-
-fn show_line<W: Write>(out: &mut W, line: &Line) -> io::Result<()> {
-    let Line {
-        number,
-        deal,
-        security,
-        quantity,
-        part,
-    } = *line;
-    writeln!(
-        out,
-        "  line {number} deal {deal} security {security} quantity {quantity} part {part}"
-    )
-}
-
-fn show_deals<W: Write>(out: &mut W, deals: &[Deal], used: usize) -> io::Result<()> {
-    for deal in deals.iter().take(used) {
-        show_deal(out, deal)?;
-    }
-    Ok(())
-}
-
-fn show_lines<W: Write>(out: &mut W, lines: &[Line], used: usize) -> io::Result<()> {
-    for line in lines.iter().take(used) {
-        show_line(out, line)?;
-    }
-    Ok(())
 }
 
 /// Writes the head, the deals, the lines and every amount above 0.
@@ -103,8 +80,14 @@ pub fn show_register<B: Book, W: Write>(
         "{number} show ok date {date} phase {phase} next deal {deal} "
     )?;
     writeln!(out, "next return {line} movements left {left}")?;
-    show_deals(out, &register.deals, head.used.deals as usize)?;
-    show_lines(out, &register.lines, head.used.lines as usize)?;
+    for deal in register.deals.iter().take(head.used.deals as usize) {
+        let deal = DealText(deal);
+        writeln!(out, "  {deal}")?;
+    }
+    for line in register.lines.iter().take(head.used.lines as usize) {
+        let line = LineText(line);
+        writeln!(out, "  {line}")?;
+    }
     show_amounts(out, book)
 }
 
@@ -116,17 +99,15 @@ pub fn show_panel<B: Book, W: Write>(
     register: &Register,
     account: u32,
 ) -> io::Result<()> {
-    let head = &register.head;
-    let deals = &register.deals;
-    let lines = &register.lines;
-    if let Ok(total) = still_to_come_back(book, head, deals, lines, account) {
+    let lent = register.lent();
+    if let Ok(total) = still_to_come_back(book, lent, account) {
         writeln!(
             out,
             "{number} panel ok account {account} still to come back {total}"
         )?;
     }
     for security in 3..book.resources() {
-        if let Ok(position) = position_of(book, head, deals, lines, account, security) {
+        if let Ok(position) = position_of(book, lent, account, security) {
             show_position(out, security, position)?;
         }
     }

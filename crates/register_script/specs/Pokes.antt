@@ -1,7 +1,10 @@
 -- Writing into the lent memory, by the words behind `poke`.
-use Rattle.std.specs.Prelude.{ℕ, cond, List, [], ◌∷◌, None, codes, Option}
+use Rattle.std.specs.Prelude.{ℕ, cond, List, [], ◌∷◌, Some, None, codes, Option}
+use Rattle.std.specs.Str.{bytes_eq}
 use Rattle.text.specs.Numbers.{wide, wholly}
-use Rattle.text.specs.Words.{next}
+use Rattle.text.specs.Naming.{lookup}
+use Rattle.text.specs.Saying.{with, past}
+use Rattle.text.specs.Words.{next, rest}
 use Rattle.register_script.specs.declared.poke.HeadField.{HeadField}
 use Rattle.register_script.specs.declared.poke.HeadField.TheVariants as head
 use Rattle.register_script.specs.declared.poke.DealField.{DealField}
@@ -9,9 +12,8 @@ use Rattle.register_script.specs.declared.poke.DealField.TheVariants as deal
 use Rattle.register_script.specs.declared.poke.LineField.{LineField}
 use Rattle.register_script.specs.declared.poke.LineField.TheVariants as line
 use Rattle.register_script.specs.declared.poke.Poke.{Poke}
+use Rattle.register_script.specs.declared.poke.Target.{Target}
 use Rattle.register_script.specs.declared.poke.Target.TheVariants.{Head, Deal, Line}
-use Rattle.register_script.specs.Fields.{with, past}
-use Rattle.register_script.specs.Naming.{same, lookup, lookup_or}
 
 abbrev pub head_field : List ℕ → Option HeadField
 head_field w =
@@ -23,26 +25,21 @@ head_field w =
     ∷ ((codes "lines", head.Lines)
     ∷ [])))))
 
-abbrev pub later_deal_field : List ℕ → Option DealField
-later_deal_field w =
-    lookup w (
-    (codes "rate", deal.Rate)
-    ∷ ((codes "return", deal.Return)
-    ∷ ((codes "cash", deal.Cash)
-    ∷ ((codes "whole", deal.Whole)
-    ∷ ((codes "residue", deal.Residue)
-    ∷ [])))))
-
 abbrev pub deal_field : List ℕ → Option DealField
 deal_field w =
-    lookup_or (later_deal_field w) w (
+    lookup w (
     (codes "number", deal.Number)
     ∷ ((codes "giver", deal.Giver)
     ∷ ((codes "taker", deal.Taker)
     ∷ ((codes "class", deal.Class)
     ∷ ((codes "margin", deal.Margin)
     ∷ ((codes "sought", deal.Sought)
-    ∷ []))))))
+    ∷ ((codes "rate", deal.Rate)
+    ∷ ((codes "return", deal.Return)
+    ∷ ((codes "cash", deal.Cash)
+    ∷ ((codes "whole", deal.Whole)
+    ∷ ((codes "residue", deal.Residue)
+    ∷ [])))))))))))
 
 abbrev pub line_field : List ℕ → Option LineField
 line_field w =
@@ -54,20 +51,19 @@ line_field w =
     ∷ ((codes "part", line.Part)
     ∷ [])))))
 
+-- a field of the head, or a row of a table and a field of it
+abbrev pub target_in : List ℕ → Option Target
+target_in s =
+    cond (bytes_eq (next s) (codes "head")) (with (head_field (next (past 1 s))) (λ f. Some (Head f)))
+    (cond (bytes_eq (next s) (codes "deal")) (with (wide (past 1 s)) (λ row. with (deal_field (next (past 2 s))) (λ f. Some (Deal row f))))
+    (cond (bytes_eq (next s) (codes "line")) (with (wide (past 1 s)) (λ row. with (line_field (next (past 2 s))) (λ f. Some (Line row f)))) None))
+
+-- how many words name it
+abbrev pub words_to : Target → ℕ
+words_to (Head f) = 2
+words_to (Deal row f) = 3
+words_to (Line row f) = 3
+
 -- a field and its value, and no more
-abbrev pub head_poke_in : List ℕ → Option Poke
-head_poke_in s = with (head_field (next s)) (λ f. with (wide (past 1 s)) (λ v. wholly (record { target = Head f; value = v }) (past 2 s)))
-
--- a row, its field and the value, and no more
-abbrev pub deal_poke_in : List ℕ → Option Poke
-deal_poke_in s = with (wide s) (λ row. with (deal_field (next (past 1 s))) (λ f. with (wide (past 2 s)) (λ v. wholly (record { target = Deal row f; value = v }) (past 3 s))))
-
-abbrev pub line_poke_in : List ℕ → Option Poke
-line_poke_in s = with (wide s) (λ row. with (line_field (next (past 1 s))) (λ f. with (wide (past 2 s)) (λ v. wholly (record { target = Line row f; value = v }) (past 3 s))))
-
--- in the head, or in one of the tables
 abbrev pub poke_in : List ℕ → Option Poke
-poke_in s =
-    cond (same (next s) (codes "head")) (head_poke_in (past 1 s))
-    (cond (same (next s) (codes "deal")) (deal_poke_in (past 1 s))
-    (cond (same (next s) (codes "line")) (line_poke_in (past 1 s)) None))
+poke_in s = with (target_in s) (λ t. with (wide (past (words_to t) s)) (λ v. wholly (record { target = t; value = v }) (rest (past (words_to t) s))))

@@ -3,10 +3,10 @@ use Rattle.std.specs.Prelude.{ℕ, List, Option}
 use Rattle.sides.specs.declared.terms.Terms.{Terms}
 use Rattle.text.specs.Numbers.{wide, small, short, tiny, wholly}
 use Rattle.text.specs.Words.{next}
-use Rattle.register_script.specs.declared.command.RegisterCommand.{RegisterCommand}
-use Rattle.register_script.specs.declared.command.RegisterCommand.TheVariants.{Price}
-use Rattle.register_script.specs.Fields.{with, past}
-use Rattle.register_script.specs.Naming.{currency_of, weighing_of, flag_of}
+use Rattle.text.specs.Flags.{flag_of}
+use Rattle.text.specs.Saying.{with, past}
+use Rattle.register_script.specs.declared.command.Quotation.{Quotation}
+use Rattle.register_script.specs.Naming.{currency_of, weighing_of}
 
 -- the twelve fields of a side, and no more
 abbrev pub terms_in : List ℕ → Option Terms
@@ -26,7 +26,7 @@ terms_in s =
     wholly (record { day = day; giver = giver; taker = taker; currency = currency; class = class; weighing = weighing; margin = margin; sought = sought; cash = cash; rate = rate; due = due; limit = limit }) (past 12 s)))))))))))))
 
 -- a security and its record, and no more
-abbrev pub quotation_in : List ℕ → Option RegisterCommand
+abbrev pub quotation_in : List ℕ → Option Quotation
 quotation_in s =
     with (small s) (λ security.
     with (tiny (past 1 s)) (λ category.
@@ -35,4 +35,4 @@ quotation_in s =
     with (small (past 4 s)) (λ gbp.
     with (small (past 5 s)) (λ eur.
     with (small (past 6 s)) (λ usd.
-    wholly (Price (record { security = security; price = record { category = category; excluded = excluded; haircut = haircut; gbp = gbp; eur = eur; usd = usd } })) (past 7 s))))))))
+    wholly (record { security = security; price = record { category = category; excluded = excluded; haircut = haircut; gbp = gbp; eur = eur; usd = usd } }) (past 7 s))))))))

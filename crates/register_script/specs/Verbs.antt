@@ -1,24 +1,10 @@
--- The first words of commands.
+-- The first words of commands to a register.
 use Rattle.std.specs.Prelude.{ℕ, List, [], ◌∷◌, codes, Option}
-use Rattle.register_script.specs.declared.verb.SetupVerb.{SetupVerb}
-use Rattle.register_script.specs.declared.verb.SetupVerb.TheVariants as setup
 use Rattle.register_script.specs.declared.verb.RegisterVerb.{RegisterVerb}
 use Rattle.register_script.specs.declared.verb.RegisterVerb.TheVariants as register
 use Rattle.register_script.specs.declared.verb.CallVerb.{CallVerb}
 use Rattle.register_script.specs.declared.verb.CallVerb.TheVariants as call
-use Rattle.register_script.specs.Naming.{lookup}
-
-abbrev pub setup_verb : List ℕ → Option SetupVerb
-setup_verb w =
-    lookup w (
-    (codes "grid", setup.Grid)
-    ∷ ((codes "journal", setup.Journal)
-    ∷ ((codes "amount", setup.Amount)
-    ∷ ((codes "hold", setup.Hold)
-    ∷ ((codes "move", setup.Move)
-    ∷ ((codes "begin", setup.Begin)
-    ∷ ((codes "show", setup.Show)
-    ∷ [])))))))
+use Rattle.text.specs.Naming.{lookup}
 
 abbrev pub register_verb : List ℕ → Option RegisterVerb
 register_verb w =

@@ -35,26 +35,26 @@ pub enum Call {
     Pay(u32),
 }
 
-fn read_substitution(reader: &mut Reader) -> Option<Call>
+fn read_substitution(reader: &mut Reader) -> Option<Substitution>
     ensures { result ≡ substitution_in (left_of reader.old) }
 {
-    let number = reader.small_number()?;
-    let quantity = reader.number()?;
-    let security = reader.small_number()?;
-    reader.whole(Call::Substitute(Substitution {
+    let number = reader.field()?;
+    let quantity = reader.field()?;
+    let security = reader.field()?;
+    reader.whole(Substitution {
         number,
         quantity,
         security,
-    }))
+    })
 }
 
-fn read_amendment(reader: &mut Reader) -> Option<Call>
+fn read_amendment(reader: &mut Reader) -> Option<Amendment>
     ensures { result ≡ amendment_in (left_of reader.old) }
 {
-    let deal = reader.small_number()?;
-    let rate = reader.small_number()?;
-    let due = reader.short_number()?;
-    reader.whole(Call::Amend(Amendment { deal, rate, due }))
+    let deal = reader.field()?;
+    let rate = reader.field()?;
+    let due = reader.field()?;
+    reader.whole(Amendment { deal, rate, due })
 }
 
 pub(crate) fn read_call(verb: CallVerb, reader: &mut Reader) -> Option<Call>
@@ -63,23 +63,23 @@ pub(crate) fn read_call(verb: CallVerb, reader: &mut Reader) -> Option<Call>
     match verb {
         CallVerb::Settle => reader.whole(Call::Settle),
         CallVerb::Return => {
-            let number = reader.small_number()?;
+            let number = reader.field()?;
             reader.whole(Call::Return(number))
         }
-        CallVerb::Substitute => read_substitution(reader),
-        CallVerb::Amend => read_amendment(reader),
+        CallVerb::Substitute => read_substitution(reader).map(Call::Substitute),
+        CallVerb::Amend => read_amendment(reader).map(Call::Amend),
         CallVerb::Open => reader.whole(Call::Open),
         CallVerb::Mark => {
-            let deal = reader.small_number()?;
+            let deal = reader.field()?;
             reader.whole(Call::Mark(deal))
         }
         CallVerb::Close => {
-            let date = reader.short_number()?;
+            let date = reader.field()?;
             reader.whole(Call::Close(date))
         }
         CallVerb::Lift => reader.whole(Call::Lift),
         CallVerb::Pay => {
-            let deal = reader.small_number()?;
+            let deal = reader.field()?;
             reader.whole(Call::Pay(deal))
         }
     }

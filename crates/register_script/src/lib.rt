@@ -1,18 +1,15 @@
-//! The console's language: a line of a script is read into a command.
+//! The console's whole language: the commands to a book, those to a register over it, and its calls.
 #![tactic(auto)]
 
+mod beginning;
 mod call;
 mod command;
-mod line;
 mod naming;
 mod poke;
-mod setup;
+mod reading;
 mod stating;
 mod verb;
 
 pub use call::{Amendment, Call, Substitution};
-pub use command::{
-    Beginning, BookChoice, BookKind, Command, Holding, Line, Quotation, RegisterCommand,
-};
-pub use line::read;
+pub use command::{Beginning, Command, Quotation, RegisterCommand};
 pub use poke::{DealField, HeadField, LineField, Poke, Target};

@@ -1,10 +1,10 @@
 //! Writing into the lent memory: a field of the head or of a row, and its value.
-ghost use Rattle.std.specs.Prelude.{◌≡◌};
+ghost use Rattle.std.specs.Prelude.{◌≡◌, IfSome};
 ghost use Rattle.text.specs.Readers.{left_of};
-ghost use Rattle.register_script.specs.Pokes.{head_field, deal_field, later_deal_field, line_field, head_poke_in, deal_poke_in, line_poke_in, poke_in};
+ghost use Rattle.text.specs.Saying.{past};
+ghost use Rattle.register_script.specs.Pokes.{head_field, deal_field, line_field, target_in, words_to, poke_in};
 
-use crate::naming::is;
-use text::Reader;
+use text::{FromWord, Reader};
 
 #[derive(Clone, Copy)]
 pub enum HeadField {
@@ -53,117 +53,74 @@ pub struct Poke {
     pub value: u64,
 }
 
-fn head_field(word: &[u8]) -> Option<HeadField>
-    ensures { result ≡ head_field word.now }
-{
-    if is(word, b"date") {
-        Some(HeadField::Date)
-    } else if is(word, b"next_deal") {
-        Some(HeadField::NextDeal)
-    } else if is(word, b"next_return") {
-        Some(HeadField::NextReturn)
-    } else if is(word, b"deals") {
-        Some(HeadField::Deals)
-    } else if is(word, b"lines") {
-        Some(HeadField::Lines)
-    } else {
-        None
+impl FromWord for HeadField {
+    ghost named_by = { head_field };
+
+    fn from_word(word: &[u8]) -> Option<HeadField> {
+        match word {
+            b"date" => Some(HeadField::Date),
+            b"next_deal" => Some(HeadField::NextDeal),
+            b"next_return" => Some(HeadField::NextReturn),
+            b"deals" => Some(HeadField::Deals),
+            b"lines" => Some(HeadField::Lines),
+            _ => None,
+        }
     }
 }
 
-fn later_deal_field(word: &[u8]) -> Option<DealField>
-    ensures { result ≡ later_deal_field word.now }
-{
-    if is(word, b"rate") {
-        Some(DealField::Rate)
-    } else if is(word, b"return") {
-        Some(DealField::Return)
-    } else if is(word, b"cash") {
-        Some(DealField::Cash)
-    } else if is(word, b"whole") {
-        Some(DealField::Whole)
-    } else if is(word, b"residue") {
-        Some(DealField::Residue)
-    } else {
-        None
+impl FromWord for DealField {
+    ghost named_by = { deal_field };
+
+    fn from_word(word: &[u8]) -> Option<DealField> {
+        match word {
+            b"number" => Some(DealField::Number),
+            b"giver" => Some(DealField::Giver),
+            b"taker" => Some(DealField::Taker),
+            b"class" => Some(DealField::Class),
+            b"margin" => Some(DealField::Margin),
+            b"sought" => Some(DealField::Sought),
+            b"rate" => Some(DealField::Rate),
+            b"return" => Some(DealField::Return),
+            b"cash" => Some(DealField::Cash),
+            b"whole" => Some(DealField::Whole),
+            b"residue" => Some(DealField::Residue),
+            _ => None,
+        }
     }
 }
 
-fn deal_field(word: &[u8]) -> Option<DealField>
-    ensures { result ≡ deal_field word.now }
-{
-    if is(word, b"number") {
-        Some(DealField::Number)
-    } else if is(word, b"giver") {
-        Some(DealField::Giver)
-    } else if is(word, b"taker") {
-        Some(DealField::Taker)
-    } else if is(word, b"class") {
-        Some(DealField::Class)
-    } else if is(word, b"margin") {
-        Some(DealField::Margin)
-    } else if is(word, b"sought") {
-        Some(DealField::Sought)
-    } else {
-        later_deal_field(word)
+impl FromWord for LineField {
+    ghost named_by = { line_field };
+
+    fn from_word(word: &[u8]) -> Option<LineField> {
+        match word {
+            b"number" => Some(LineField::Number),
+            b"deal" => Some(LineField::Deal),
+            b"security" => Some(LineField::Security),
+            b"quantity" => Some(LineField::Quantity),
+            b"part" => Some(LineField::Part),
+            _ => None,
+        }
     }
 }
 
-fn line_field(word: &[u8]) -> Option<LineField>
-    ensures { result ≡ line_field word.now }
+/// The table, a row of it where it is none of one row, and a field.
+fn read_target(reader: &mut Reader) -> Option<Target>
+    ensures answer { result ≡ target_in (left_of reader.old) }
+    ensures left { IfSome result (λ target. left_of reader.new ≡ past (words_to target) (left_of reader.old)) }
 {
-    if is(word, b"number") {
-        Some(LineField::Number)
-    } else if is(word, b"deal") {
-        Some(LineField::Deal)
-    } else if is(word, b"security") {
-        Some(LineField::Security)
-    } else if is(word, b"quantity") {
-        Some(LineField::Quantity)
-    } else if is(word, b"part") {
-        Some(LineField::Part)
-    } else {
-        None
+    match reader.word() {
+        b"head" => Some(Target::Head(reader.field()?)),
+        b"deal" => Some(Target::Deal(reader.field()?, reader.field()?)),
+        b"line" => Some(Target::Line(reader.field()?, reader.field()?)),
+        _ => None,
     }
-}
-
-fn read_head_poke(reader: &mut Reader) -> Option<Poke>
-    ensures { result ≡ head_poke_in (left_of reader.old) }
-{
-    let target = Target::Head(head_field(reader.word())?);
-    let value = reader.number()?;
-    reader.whole(Poke { target, value })
-}
-
-fn read_deal_poke(reader: &mut Reader) -> Option<Poke>
-    ensures { result ≡ deal_poke_in (left_of reader.old) }
-{
-    let row = reader.number()? as usize;
-    let target = Target::Deal(row, deal_field(reader.word())?);
-    let value = reader.number()?;
-    reader.whole(Poke { target, value })
-}
-
-fn read_line_poke(reader: &mut Reader) -> Option<Poke>
-    ensures { result ≡ line_poke_in (left_of reader.old) }
-{
-    let row = reader.number()? as usize;
-    let target = Target::Line(row, line_field(reader.word())?);
-    let value = reader.number()?;
-    reader.whole(Poke { target, value })
 }
 
 pub(crate) fn read_poke(reader: &mut Reader) -> Option<Poke>
     ensures { result ≡ poke_in (left_of reader.old) }
 {
-    let table = reader.word();
-    if is(table, b"head") {
-        read_head_poke(reader)
-    } else if is(table, b"deal") {
-        read_deal_poke(reader)
-    } else if is(table, b"line") {
-        read_line_poke(reader)
-    } else {
-        None
-    }
+    let target = read_target(reader)?;
+    let value = reader.field()?;
+    reader.whole(Poke { target, value })
 }

@@ -3,8 +3,8 @@ ghost use Rattle.std.specs.Prelude.{◌≡◌};
 ghost use Rattle.text.specs.Readers.{left_of};
 ghost use Rattle.register_script.specs.Stating.{terms_in, quotation_in};
 
-use crate::command::{Quotation, RegisterCommand};
-use crate::naming::{currency_of, flag_of, weighing_of};
+use crate::command::Quotation;
+use crate::naming::{currency_of, weighing_of};
 use sides::Terms;
 use text::Reader;
 use valuation::Price;
@@ -13,18 +13,18 @@ use valuation::Price;
 pub(crate) fn read_terms(reader: &mut Reader) -> Option<Terms>
     ensures { result ≡ terms_in (left_of reader.old) }
 {
-    let day = reader.short_number()?;
-    let giver = reader.small_number()?;
-    let taker = reader.small_number()?;
+    let day = reader.field()?;
+    let giver = reader.field()?;
+    let taker = reader.field()?;
     let currency = currency_of(reader.word())?;
-    let class = reader.short_number()?;
+    let class = reader.field()?;
     let weighing = weighing_of(reader.word())?;
-    let margin = reader.short_number()?;
-    let sought = reader.number()?;
-    let cash = reader.number()?;
-    let rate = reader.small_number()?;
-    let due = reader.short_number()?;
-    let limit = flag_of(reader.word())?;
+    let margin = reader.field()?;
+    let sought = reader.field()?;
+    let cash = reader.field()?;
+    let rate = reader.field()?;
+    let due = reader.field()?;
+    let limit = reader.field()?;
     reader.whole(Terms {
         day,
         giver,
@@ -42,16 +42,16 @@ pub(crate) fn read_terms(reader: &mut Reader) -> Option<Terms>
 }
 
 /// A security and its record, and no more.
-pub(crate) fn read_quotation(reader: &mut Reader) -> Option<RegisterCommand>
+pub(crate) fn read_quotation(reader: &mut Reader) -> Option<Quotation>
     ensures { result ≡ quotation_in (left_of reader.old) }
 {
-    let security = reader.small_number()?;
-    let category = reader.tiny_number()?;
-    let excluded = flag_of(reader.word())?;
-    let haircut = reader.short_number()?;
-    let gbp = reader.small_number()?;
-    let eur = reader.small_number()?;
-    let usd = reader.small_number()?;
+    let security = reader.field()?;
+    let category = reader.field()?;
+    let excluded = reader.field()?;
+    let haircut = reader.field()?;
+    let gbp = reader.field()?;
+    let eur = reader.field()?;
+    let usd = reader.field()?;
     let price = Price {
         category,
         excluded,
@@ -60,5 +60,5 @@ pub(crate) fn read_quotation(reader: &mut Reader) -> Option<RegisterCommand>
         eur,
         usd,
     };
-    reader.whole(RegisterCommand::Price(Quotation { security, price }))
+    reader.whole(Quotation { security, price })
 }

@@ -1,11 +1,11 @@
-//! Commands, and the line that is read into one.
+//! Commands, and the words that are read into one.
 ghost use Rattle.std.specs.Prelude.{◌≡◌};
-ghost use Rattle.script.specs.Commands.{choice_in, holding_in, movement_in, command_in, line_of};
-ghost use Rattle.script.specs.Readers.{left_of};
+ghost use Rattle.text.specs.Readers.{left_of};
+ghost use Rattle.script.specs.Commands.{choice_in, holding_in, movement_in, fields_in, command_in};
 
-use crate::reader::Reader;
-use crate::verb::{Verb, verb_of};
+use crate::verb::Verb;
 use book::Movement;
+use text::{FromWord, FromWords, Reader};
 
 #[derive(Clone, Copy)]
 pub enum BookKind {
@@ -39,25 +39,13 @@ pub enum Command {
     Show,
 }
 
-#[derive(Clone, Copy)]
-pub enum Line {
-    /// No word stands on it.
-    Empty,
-    /// Its command cannot be read.
-    Unread,
-    Read(Command),
-}
-
 fn read_choice(kind: BookKind, reader: &mut Reader) -> Option<BookChoice>
     ensures { result ≡ choice_in kind (left_of reader.old) }
 {
-    let accounts = reader.small_number()?;
-    let resources = reader.small_number()?;
-    let count = reader.number()?;
-    if !reader.is_over() {
-        return None;
-    }
-    Some(BookChoice {
+    let accounts = reader.field()?;
+    let resources = reader.field()?;
+    let count = reader.field()?;
+    reader.whole(BookChoice {
         kind,
         accounts,
         resources,
@@ -68,13 +56,10 @@ fn read_choice(kind: BookKind, reader: &mut Reader) -> Option<BookChoice>
 fn read_holding(reader: &mut Reader) -> Option<Holding>
     ensures { result ≡ holding_in (left_of reader.old) }
 {
-    let account = reader.small_number()?;
-    let resource = reader.small_number()?;
-    let quantity = reader.number()?;
-    if !reader.is_over() {
-        return None;
-    }
-    Some(Holding {
+    let account = reader.field()?;
+    let resource = reader.field()?;
+    let quantity = reader.field()?;
+    reader.whole(Holding {
         account,
         resource,
         quantity,
@@ -84,14 +69,11 @@ fn read_holding(reader: &mut Reader) -> Option<Holding>
 fn read_movement(reader: &mut Reader) -> Option<Movement>
     ensures { result ≡ movement_in (left_of reader.old) }
 {
-    let from = reader.small_number()?;
-    let to = reader.small_number()?;
-    let resource = reader.small_number()?;
-    let quantity = reader.number()?;
-    if !reader.is_over() {
-        return None;
-    }
-    Some(Movement {
+    let from = reader.field()?;
+    let to = reader.field()?;
+    let resource = reader.field()?;
+    let quantity = reader.field()?;
+    reader.whole(Movement {
         from,
         to,
         resource,
@@ -99,38 +81,26 @@ fn read_movement(reader: &mut Reader) -> Option<Movement>
     })
 }
 
-fn read_command(verb: Verb, reader: &mut Reader) -> Option<Command>
-    ensures { result ≡ command_in verb (left_of reader.old) }
-{
-    match verb {
-        Verb::Grid => Some(Command::Choose(read_choice(BookKind::Grid, reader)?)),
-        Verb::Journal => Some(Command::Choose(read_choice(BookKind::Journal, reader)?)),
-        Verb::Amount => Some(Command::Amount(read_holding(reader)?)),
-        Verb::Hold => Some(Command::Hold(read_holding(reader)?)),
-        Verb::Move => Some(Command::Move(read_movement(reader)?)),
-        Verb::Show => {
-            if !reader.is_over() {
-                return None;
-            }
-            Some(Command::Show)
+impl Verb {
+    /// The command that begins with this word and goes on with those behind it.
+    pub fn command(self, reader: &mut Reader) -> Option<Command>
+        ensures { result ≡ fields_in self (left_of reader.old) }
+    {
+        match self {
+            Verb::Grid => read_choice(BookKind::Grid, reader).map(Command::Choose),
+            Verb::Journal => read_choice(BookKind::Journal, reader).map(Command::Choose),
+            Verb::Amount => read_holding(reader).map(Command::Amount),
+            Verb::Hold => read_holding(reader).map(Command::Hold),
+            Verb::Move => read_movement(reader).map(Command::Move),
+            Verb::Show => reader.whole(Command::Show),
         }
     }
 }
 
-/// Reads a line of a script.
-pub fn read(line: &[u8]) -> Line
-    ensures { result ≡ line_of line.now }
-{
-    let mut reader = Reader::over(line);
-    let word = reader.word();
-    if word.is_empty() {
-        return Line::Empty;
+impl FromWords for Command {
+    ghost said_by = { command_in };
+
+    fn from_words(word: &[u8], reader: &mut Reader) -> Option<Command> {
+        Verb::from_word(word)?.command(reader)
     }
-    let Some(verb) = verb_of(word) else {
-        return Line::Unread;
-    };
-    let Some(command) = read_command(verb, &mut reader) else {
-        return Line::Unread;
-    };
-    Line::Read(command)
 }

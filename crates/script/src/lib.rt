@@ -1,13 +1,8 @@
-//! The console's language: a line of a script is read into a command.
+//! The commands to a book: the words of a line are read into one.
 #![tactic(auto)]
 
 mod command;
-mod number;
-mod reader;
-mod reading;
-mod script;
 mod verb;
 
-pub use command::{BookChoice, BookKind, Command, Holding, Line, read};
-pub use reader::Reader;
-pub use script::{Script, split_line};
+pub use command::{BookChoice, BookKind, Command, Holding};
+pub use verb::Verb;

@@ -1,9 +1,10 @@
 //! The first word of a command.
-ghost use Rattle.std.specs.Prelude.{◌≡◌};
-ghost use Rattle.script.specs.Verbs.{same, verb_of};
+ghost use Rattle.script.specs.Verbs.{verb_of};
+
+use text::FromWord;
 
 #[derive(Clone, Copy)]
-pub(crate) enum Verb {
+pub enum Verb {
     Grid,
     Journal,
     Amount,
@@ -12,28 +13,18 @@ pub(crate) enum Verb {
     Show,
 }
 
-fn is(word: &[u8], name: &[u8]) -> bool
-    ensures { result ≡ same word.now name.now }
-{
-    word == name
-}
+impl FromWord for Verb {
+    ghost named_by = { verb_of };
 
-pub(crate) fn verb_of(word: &[u8]) -> Option<Verb>
-    ensures { result ≡ verb_of word.now }
-{
-    if is(word, b"grid") {
-        Some(Verb::Grid)
-    } else if is(word, b"journal") {
-        Some(Verb::Journal)
-    } else if is(word, b"amount") {
-        Some(Verb::Amount)
-    } else if is(word, b"hold") {
-        Some(Verb::Hold)
-    } else if is(word, b"move") {
-        Some(Verb::Move)
-    } else if is(word, b"show") {
-        Some(Verb::Show)
-    } else {
-        None
+    fn from_word(word: &[u8]) -> Option<Verb> {
+        match word {
+            b"grid" => Some(Verb::Grid),
+            b"journal" => Some(Verb::Journal),
+            b"amount" => Some(Verb::Amount),
+            b"hold" => Some(Verb::Hold),
+            b"move" => Some(Verb::Move),
+            b"show" => Some(Verb::Show),
+            _ => None,
+        }
     }
 }

@@ -1,4 +1,4 @@
-pub mod Interest
+pub mod Accruing
 pub mod Scales
 pub mod Telescope
 pub mod Walks

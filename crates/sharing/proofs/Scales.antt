@@ -70,6 +70,36 @@ pub smallest : (total : ℕ) → total < 2 ^ 64
     → (k : ℕ) × (scale_of total ≡ 10 ^ k) × (total / 10 ^ k ≤ 1_000_000) × ((j : ℕ) → j < k → 1_000_000 < total / 10 ^ j)
 smallest total h = scale_power 14 total 0 (omega (arith, div-one total)) (λ i l. absurd (omega arith))
 
+-- a power of ten that is reached: each smaller one leaves more than a million
+pub record Tried (total scale : ℕ) : Type 0 where
+  pub power : ℕ
+  pub is : scale ≡ 10 ^ power
+  pub some : 0 < scale
+  pub before : (i : ℕ) → i < power → 1_000_000 < total / 10 ^ i
+
+pub tried_one : (total : ℕ) → Tried total 1
+tried_one total = record { power = 0; is = refl; some = omega arith; before = λ i l. absurd (omega arith) }
+
+pub tried_more : (total scale : ℕ) → Tried total scale → 1_000_000 < total / scale → Tried total (scale * 10)
+tried_more total scale t more =
+    record {
+      power = suc t.power;
+      is = ap (λ s. s * 10) t.is ∙ sym (pow-suc 10 t.power);
+      some = omega (arith, t.some);
+      before = λ i l. elim (cases_lt i t.power) [ inl b ↦ t.before i b | inr b ↦ let e : 10 ^ i ≡ scale = ap (λ n. 10 ^ n) (omega arith) ∙ sym t.is in omega (arith, ap (λ s. total / s) e) ];
+    }
+
+pub tried_last : (total scale : ℕ) → total < 2 ^ 64 → Tried total scale → total / scale ≤ 1_000_000 → scale ≡ scale_of total
+tried_last total scale h t few =
+    let s = smallest total h in
+    let here : total / 10 ^ t.power ≤ 1_000_000 = omega (arith, ap (λ n. total / n) t.is) in
+    let same : t.power ≡ s.0 =
+    elim (cases_lt t.power s.0) [
+      | inl l ↦ absurd (omega (arith, s.3 t.power l))
+      | inr l ↦ elim (cases_lt s.0 t.power) [ inl m ↦ absurd (omega (arith, t.before s.0 m, s.2)) | inr m ↦ omega arith ]
+    ] in
+    t.is ∙ ap (λ n. 10 ^ n) same ∙ sym s.1
+
 -- a scaled total comes to a million at most
 pub scaled_few : (total running : ℕ) → total < 2 ^ 64 → running ≤ total → scaled total running ≤ 1_000_000
 scaled_few total running h le =

@@ -1,12 +1,12 @@
 -- Going over a list of values, line by line. Assumes nothing.
-use Rattle.std.proofs.Common.{◌≡◌, ℕ, ◌+◌, ◌^◌, ◌<◌, ◌≤◌, Bool, true, false, cond, eqb, ltb, leb, List, [], ◌∷◌, ◌++◌, length, get_or, take, drop, set, Some, None, Ok, sym, refl, ap, ◌∙◌, arith}
+use Rattle.std.proofs.Common.{◌≡◌, ℕ, ◌+◌, ◌^◌, ◌<◌, ◌≤◌, Bool, true, false, cond, eqb, ltb, leb, List, [], ◌∷◌, ◌++◌, length, get_or, take, drop, set, Some, None, sym, refl, ap, ◌∙◌, arith}
 use Rattle.std.proofs.lemmas.List.{at_drop_more, at_drop_all, drop_more, drop_all, take_more_set, take_all, append_assoc, append-nil, length-drop}
 use Rattle.std.proofs.lemmas.Bool.{leb-true}
 use Rattle.std.proofs.lemmas.Bool.Decides.{nat_tests}
 use Rattle.sharing.specs.declared.share.Share.{Share}
 use Rattle.sharing.specs.Limits.{most_cash}
 use Rattle.sharing.specs.Parts.{total_of, line_part, parts_from, parts_of}
-use Rattle.sharing.specs.Apportioned.{fitting, verdict}
+use Rattle.sharing.specs.Apportioned.{fitting}
 use Rattle.sharing.specs.Shares.{terms_of, sharable}
 
 module _ (vs : List ℕ) (i : ℕ) where
@@ -51,12 +51,10 @@ made_of s cash total h =
     (leb-true cash most_cash e.0, ap (λ (p : ℕ × ℕ). p.0) e.1, ap (λ (p : ℕ × ℕ). p.1) e.1)
 
 -- what stands at the end of the walk over a list that is not refused
-pub walk_ends : (s : Share) (cash t : ℕ) (vs ps qs : List ℕ) (i before : ℕ) → length vs ≤ i → length vs ≡ length ps → length qs ≡ length vs
+pub walk_ends : (s : Share) (cash t : ℕ) (vs qs : List ℕ) (i before : ℕ) → length vs ≤ i → length qs ≡ length vs
     → Some t ≡ fitting (total_of vs) → Some (terms_of s) ≡ sharable cash t
-    → take i qs ++ parts_from s.cash s.total before (drop i vs) ≡ parts_from s.cash s.total 0 vs
-    → (Ok tt ≡ verdict cash vs (length ps)) × (qs ≡ parts_of cash vs)
-walk_ends s cash t vs ps qs i before end room same sum made walked =
+    → take i qs ++ parts_from s.cash s.total before (drop i vs) ≡ parts_from s.cash s.total 0 vs → qs ≡ parts_of cash vs
+walk_ends s cash t vs qs i before end same sum made walked =
     let terms = made_of s cash t made in
     let total = some_cond (ltb (total_of vs) (2 ^ 64)) t (total_of vs) sum in
-    let parts : qs ≡ parts_from s.cash s.total 0 vs = sym (parts_all s.cash s.total vs qs i before end same) ∙ walked in
-    (grind (arith, nat_tests), parts ∙ (λ k. parts_from (terms.1 k) ((terms.2 ∙ total.1) k) 0 vs))
+    sym (parts_all s.cash s.total vs qs i before end same) ∙ walked ∙ (λ k. parts_from (terms.1 k) ((terms.2 ∙ total.1) k) 0 vs)

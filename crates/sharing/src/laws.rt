@@ -3,6 +3,7 @@ ghost use Rattle.std.specs.Prelude.{◌≡◌, true};
 ghost use Rattle.sharing.specs.AccrualLaw.{AccrualLaw, AccrualFigures};
 ghost use Rattle.sharing.specs.PartsLaw.{PartsLaw, PartsFigures};
 
+#[tactic(auto, using(crate::proofs::Telescope::parts_law, crate::proofs::Telescope::parts_figures))]
 fn parts_stand() -> bool
     ensures answer { result ≡ true }
     ensures law { PartsLaw }
@@ -11,6 +12,7 @@ fn parts_stand() -> bool
     true
 }
 
+#[tactic(auto, using(crate::proofs::Accruing::accrual_law, crate::proofs::Accruing::accrual_figures))]
 fn accrual_stands() -> bool
     ensures answer { result ≡ true }
     ensures law { AccrualLaw }

@@ -8,7 +8,7 @@ mod limits;
 mod refusal;
 mod share;
 
-pub use accrual::{DayBase, accrue};
+pub use accrual::{DayBase, Interest};
 pub use apportioning::apportion;
 pub use laws::laws_stand;
 pub use refusal::SharingRefusal;

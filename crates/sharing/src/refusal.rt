@@ -1,6 +1,6 @@
 //! Why cash is not shared.
 
-#[derive(Clone, Copy)]
+#[derive(Clone, Copy, PartialEq, Eq, Debug)]
 pub enum SharingRefusal {
     /// Not one part for each value.
     Lengths,

@@ -1,62 +1,60 @@
--- Terms are the same in every field just where they are equal.
-use Rattle.std.proofs.Common.{◌≡◌, Bool, true, false, eqb, Decides, refl, subst, arith}
+-- Terms are equal just where every field of them is the same.
+use Rattle.std.proofs.Common.{◌≡◌, Bool, true, false, not, ◌&&◌, eqb, refl, sym, ◌∙◌}
+use Rattle.std.specs.Bool.{beq}
+use denote.Enum.Bare.{sameb}
 use Rattle.memory.specs.declared.row.Weighing.{Weighing}
 use Rattle.memory.specs.declared.row.Weighing.TheVariants.{Margin, Haircut}
+use Rattle.memory.specs.contracts.row.Weighing.{the_type as weighings}
 use Rattle.memory.specs.Kinds.{weighing_number}
-use Rattle.std.proofs.lemmas.Bool.{and_parts, eqb-true, false≢true}
-use Rattle.std.proofs.lemmas.Bool.Decides.{nat_tests}
 use Rattle.valuation.specs.declared.currency.Currency.{Currency}
 use Rattle.valuation.specs.declared.currency.Currency.TheVariants.{Gbp, Eur, Usd}
+use Rattle.valuation.specs.contracts.currency.Currency.{the_type as currencies}
 use Rattle.valuation.specs.Currencies.{number_of}
 use Rattle.sides.specs.declared.terms.Terms.{Terms}
-use Rattle.sides.specs.Sameness.{same_bool, same_parties, same_securities, same_terms}
+use Rattle.sides.specs.Sameness.{same_bool, same_terms}
+use Rattle.std.proofs.lemmas.Bool.{not-true}
 
-currency : (a b : Currency) → eqb (number_of a) (number_of b) ≡ true → a ≡ b
-currency Gbp Gbp h = refl
-currency Gbp Eur h = absurd (false≢true h)
-currency Gbp Usd h = absurd (false≢true h)
-currency Eur Gbp h = absurd (false≢true h)
-currency Eur Eur h = refl
-currency Eur Usd h = absurd (false≢true h)
-currency Usd Gbp h = absurd (false≢true h)
-currency Usd Eur h = absurd (false≢true h)
-currency Usd Usd h = refl
+currency : (a b : Currency) → sameb currencies a b ≡ eqb (number_of a) (number_of b)
+currency Gbp Gbp = refl
+currency Gbp Eur = refl
+currency Gbp Usd = refl
+currency Eur Gbp = refl
+currency Eur Eur = refl
+currency Eur Usd = refl
+currency Usd Gbp = refl
+currency Usd Eur = refl
+currency Usd Usd = refl
 
-weighing : (a b : Weighing) → eqb (weighing_number a) (weighing_number b) ≡ true → a ≡ b
-weighing Margin Margin h = refl
-weighing Margin Haircut h = absurd (false≢true h)
-weighing Haircut Margin h = absurd (false≢true h)
-weighing Haircut Haircut h = refl
+weighing : (a b : Weighing) → sameb weighings a b ≡ eqb (weighing_number a) (weighing_number b)
+weighing Margin Margin = refl
+weighing Margin Haircut = refl
+weighing Haircut Margin = refl
+weighing Haircut Haircut = refl
 
-bool : (a b : Bool) → same_bool a b ≡ true → a ≡ b
-bool true true h = refl
-bool true false h = absurd (false≢true h)
-bool false true h = absurd (false≢true h)
-bool false false h = refl
+bool : (a b : Bool) → beq a b ≡ same_bool a b
+bool true true = refl
+bool true false = refl
+bool false true = refl
+bool false false = refl
 
-bool_self : (a : Bool) → same_bool a a ≡ true
-bool_self true = refl
-bool_self false = refl
+-- what `==` answers
+abbrev equal : Terms → Terms → Bool
+equal a b =
+    eqb a.day b.day && (eqb a.giver b.giver && (eqb a.taker b.taker && (sameb currencies a.currency b.currency && (eqb a.class b.class && (sameb weighings a.weighing b.weighing
+    && (eqb a.margin b.margin && (eqb a.sought b.sought && (eqb a.cash b.cash && (eqb a.rate b.rate && (eqb a.due b.due && beq a.limit b.limit))))))))))
 
-pub equal_terms : (a b : Terms) → same_terms a b ≡ true → a ≡ b
+equal_is_same : (a b : Terms) → equal a b ≡ same_terms a b
 unfolding same_terms
-equal_terms a b h =
-    let all = and_parts (same_parties a b) _ h in
-    let more = and_parts (same_securities a b) _ all.1 in
-    let ps = and_parts (eqb a.day b.day) _ all.0 in
-    let qs = and_parts (eqb a.giver b.giver) _ ps.1 in
-    let cs = and_parts (eqb (number_of a.currency) (number_of b.currency)) _ more.0 in
-    let ks = and_parts (eqb a.class b.class) _ cs.1 in
-    let ws = and_parts (eqb (weighing_number a.weighing) (weighing_number b.weighing)) _ ks.1 in
-    let ms = and_parts (eqb a.margin b.margin) _ more.1 in
-    let vs = and_parts (eqb a.sought b.sought) _ ms.1 in
-    let xs = and_parts (eqb a.cash b.cash) _ vs.1 in
-    let rs = and_parts (eqb a.rate b.rate) _ xs.1 in
-    λ i. record { day = eqb-true _ _ ps.0 i; giver = eqb-true _ _ qs.0 i; taker = eqb-true _ _ qs.1 i; currency = currency _ _ cs.0 i; class = eqb-true _ _ ks.0 i; weighing = weighing _ _ ws.0 i; margin = eqb-true _ _ ms.0 i; sought = eqb-true _ _ vs.0 i; cash = eqb-true _ _ xs.0 i; rate = eqb-true _ _ rs.0 i; due = eqb-true _ _ rs.1 i; limit = bool a.limit b.limit ws.1 i }
+equal_is_same a b = λ i.
+    eqb a.day b.day && (eqb a.giver b.giver && (eqb a.taker b.taker && (currency a.currency b.currency i && (eqb a.class b.class && (weighing a.weighing b.weighing i
+    && (eqb a.margin b.margin && (eqb a.sought b.sought && (eqb a.cash b.cash && (eqb a.rate b.rate && (eqb a.due b.due && bool a.limit b.limit i))))))))))
 
-pub same_self : (a : Terms) → same_terms a a ≡ true
-unfolding same_terms
-same_self a = let l = bool_self a.limit in grind (arith, nat_tests)
+pub differ : (a b : Terms) → true ≡ not (equal a b) → same_terms a b ≡ false
+differ a b h = sym (equal_is_same a b) ∙ not-true (equal a b) (sym h)
 
-pub same_decides : (a b : Terms) → Decides (same_terms a b) (a ≡ b)
-same_decides a b = (equal_terms a b, λ e. let P : Terms → Type 0 = λ t. same_terms a t ≡ true in subst P e (same_self a))
+not_false : (t : Bool) → not t ≡ false → t ≡ true
+not_false true h = refl
+not_false false h = sym h
+
+pub agree : (a b : Terms) → false ≡ not (equal a b) → same_terms a b ≡ true
+agree a b h = sym (equal_is_same a b) ∙ not_false (equal a b) (sym h)

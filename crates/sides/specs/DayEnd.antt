@@ -27,9 +27,9 @@ on_date d h = record { date = d; phase = h.phase; next = h.next; used = h.used }
 abbrev pub open_verdict : Head → Result (Unit {0}) Refusal
 open_verdict h = first_refusal ((not (in_day h.phase), refusal.WrongPhase) ∷ [])
 
--- a sheet that is not given in yet
+-- a sheet, which is owed until it is given in
 abbrev pub owed : DaySheet
-owed = record { spent = false }
+owed = record { 0 = tt }
 
 abbrev pub opening : Head → Result DaySheet Refusal
 opening h = result_map_both (λ _. owed) (λ e. e) (open_verdict h)

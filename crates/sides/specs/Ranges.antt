@@ -1,7 +1,8 @@
 -- The ranges of what a side states.
 use Rattle.std.specs.Prelude.{◌≡◌, ℕ, ◌+◌, ◌≤◌, Bool, not, ◌&&◌, ◌≢◌, ◌==◌, nat_le}
 use Rattle.memory.specs.declared.row.Weighing.{Weighing}
-use Rattle.memory.specs.declared.row.Weighing.TheVariants.{Margin, Haircut}
+use Rattle.memory.specs.declared.row.Weighing.TheVariants.{Haircut}
+use Rattle.memory.specs.Sound.{margin_fits as admits_margin}
 use Rattle.sharing.specs.Limits.{most_cash, most_rate}
 use Rattle.valuation.specs.Most.{most_margin, most_sought}
 use Rattle.sides.specs.declared.terms.Terms.{Terms}
@@ -10,12 +11,8 @@ use Rattle.sides.specs.declared.terms.Terms.{Terms}
 abbrev pub parties_fit : Terms → Bool
 parties_fit t = nat_le t.giver 63 && (nat_le t.taker 63 && not (t.giver == t.taker))
 
-abbrev pub margin_in : Weighing → ℕ → Bool
-margin_in Margin m = nat_le m most_margin
-margin_in Haircut m = m == 0
-
 abbrev pub margin_fits : Terms → Bool
-margin_fits t = margin_in t.weighing t.margin
+margin_fits t = admits_margin t.weighing t.margin
 
 abbrev pub amounts_fit : Terms → Bool
 amounts_fit t = nat_le 1 t.sought && (nat_le t.sought most_sought && (nat_le t.cash most_cash && nat_le t.rate most_rate))

@@ -4,8 +4,7 @@ use Rattle.sides.specs.declared.pair.Matched.{Matched}
 use Rattle.sides.specs.declared.pair.Unmatched.{Unmatched}
 use Rattle.sides.specs.declared.refusal.Refusal.{Refusal}
 use Rattle.sides.specs.declared.refusal.Refusal.TheVariants.{OutOfRange}
-use Rattle.sides.specs.declared.side.GiverSide.{GiverSide}
-use Rattle.sides.specs.declared.side.TakerSide.{TakerSide}
+use Rattle.sides.specs.declared.side.Side.{Side}
 use Rattle.sides.specs.declared.terms.Terms.{Terms}
 use Rattle.sides.specs.Ranges.{terms_fit}
 use Rattle.sides.specs.Sameness.{same_terms}
@@ -14,13 +13,9 @@ use Rattle.sides.specs.Sameness.{same_terms}
 abbrev pub stated : Terms → Result Terms Refusal
 stated t = cond (terms_fit t) (Ok t) (Err OutOfRange)
 
-abbrev pub given_terms : Result GiverSide Refusal → Result Terms Refusal
-given_terms (Ok g) = Ok g.terms
-given_terms (Err e) = Err e
-
-abbrev pub taken_terms : Result TakerSide Refusal → Result Terms Refusal
-taken_terms (Ok t) = Ok t.terms
-taken_terms (Err e) = Err e
+abbrev pub side_terms : {P : Type 0} → Result (Side P) Refusal → Result Terms Refusal
+side_terms (Ok s) = Ok s.terms
+side_terms (Err e) = Err e
 
 -- a giver's and a taker's terms: one pair's where they are the same, else both again
 abbrev pub matched : Terms → Terms → Result Terms (Terms × Terms)

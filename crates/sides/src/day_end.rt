@@ -1,22 +1,14 @@
 //! The day end, and the day sheet that is handed out while it lasts.
-ghost use Rattle.std.specs.Prelude.{◌≡◌, true};
+ghost use Rattle.std.specs.Prelude.{◌≡◌};
 ghost use Rattle.sides.specs.DayEnd.{open_verdict, opening, opened, closing, closed, lifted};
 
 use crate::refusal::Refusal;
 use memory::{Head, Phase};
 
-/// What is owed at close or lift: an unspent sheet may not be let go.
-pub struct DaySheet {
-    spent: bool,
-}
-
-impl Drop for DaySheet {
-    fn drop(self)
-        requires { self.spent ≡ true }
-    {
-        let DaySheet { spent: _ } = self;
-    }
-}
+/// What is owed at close or lift. It has no `Drop`, so it cannot be let go: it ends only in `lift_day_end`, and in
+/// `close_day_end`, which calls it.
+#[must_use]
+pub struct DaySheet(());
 
 /// Why the day end is not closed, with the sheet.
 pub struct NotClosed {
@@ -33,7 +25,7 @@ pub fn open_day_end(head: &mut Head) -> Result<DaySheet, Refusal>
         return Err(Refusal::WrongPhase);
     }
     head.phase = Phase::DayEnd;
-    Ok(DaySheet { spent: false })
+    Ok(DaySheet(()))
 }
 
 /// Ends the day end at a new date. Refused by 2 in the day, by 4 where the date is not 1 to 31 days later.
@@ -59,11 +51,11 @@ pub fn close_day_end(head: &mut Head, sheet: DaySheet, date: u16) -> Result<(), 
 }
 
 /// Ends the day end at the same date; in the day nothing changes.
-pub fn lift_day_end(head: &mut Head, mut sheet: DaySheet)
+pub fn lift_day_end(head: &mut Head, sheet: DaySheet)
     ensures { head.new ≡ lifted head.old }
 {
+    let DaySheet(()) = sheet;
     head.phase = Phase::Day;
-    sheet.spent = true;
 }
 
 /// Opens the day end and lifts it again, to see whether it may be opened.

@@ -12,5 +12,5 @@ pub use day_end::{
 };
 pub use pair::{Matched, Unmatched, match_sides};
 pub use refusal::Refusal;
-pub use side::{GiverSide, TakerSide};
+pub use side::{Giver, GiverSide, Side, Taker, TakerSide};
 pub use terms::Terms;

@@ -1,11 +1,12 @@
 //! Why the register refuses.
 ghost use Rattle.std.specs.Prelude.{◌≡◌};
 ghost use Rattle.sides.specs.Refusals.{number_of};
+ghost use Rattle.sides.specs.declared.refusal.Refusal.TheVariants.{Broken, Book};
 
 use book::RefusedAt;
 use memory::Fault;
 
-#[derive(Clone, Copy)]
+#[derive(Clone, Copy, PartialEq, Eq, Debug)]
 pub enum Refusal {
     /// The register or the price list breaks a rule.
     Broken(Fault),
@@ -41,6 +42,7 @@ impl Refusal {
     pub fn number(&self) -> u32
         ensures { result ≡ number_of self.now }
     {
+        // Two variants carry what was found, so the number is no discriminant.
         match self {
             Refusal::Broken(_) => 1,
             Refusal::WrongPhase => 2,
@@ -57,5 +59,21 @@ impl Refusal {
             Refusal::NoSlips => 13,
             Refusal::Book(_) => 14,
         }
+    }
+}
+
+impl From<Fault> for Refusal {
+    ghost from_gives = { λ fault r. r ≡ Broken fault };
+
+    fn from(fault: Fault) -> Refusal {
+        Refusal::Broken(fault)
+    }
+}
+
+impl From<RefusedAt> for Refusal {
+    ghost from_gives = { λ refused r. r ≡ Book refused };
+
+    fn from(refused: RefusedAt) -> Refusal {
+        Refusal::Book(refused)
     }
 }

@@ -1,13 +1,11 @@
 //! What the two sides of a deal state.
 ghost use Rattle.std.specs.Prelude.{◌≡◌};
-ghost use Rattle.memory.specs.Kinds.{weighing_number};
 ghost use Rattle.sides.specs.Ranges.{parties_fit, margin_fits, amounts_fit, due_fits, terms_fit};
-ghost use Rattle.sides.specs.Sameness.{same_parties, same_securities, same_figures, same_terms};
 
 use memory::Weighing;
 use valuation::Currency;
 
-#[derive(Clone, Copy)]
+#[derive(Clone, Copy, PartialEq, Eq, Debug)]
 pub struct Terms {
     pub day: u16,
     pub giver: u32,
@@ -30,15 +28,6 @@ pub struct Terms {
     pub limit: bool,
 }
 
-fn weighing_number(weighing: Weighing) -> u32
-    ensures { result ≡ weighing_number weighing }
-{
-    match weighing {
-        Weighing::Margin => 0,
-        Weighing::Haircut => 1,
-    }
-}
-
 impl Terms {
     fn parties_fit(&self) -> bool
         ensures { result ≡ parties_fit self.now }
@@ -49,10 +38,7 @@ impl Terms {
     fn margin_fits(&self) -> bool
         ensures { result ≡ margin_fits self.now }
     {
-        match self.weighing {
-            Weighing::Margin => self.margin <= 5_000,
-            Weighing::Haircut => self.margin == 0,
-        }
+        self.weighing.admits_margin(self.margin)
     }
 
     fn amounts_fit(&self) -> bool
@@ -71,41 +57,10 @@ impl Terms {
     }
 
     /// Whether every field is in its range.
+    #[tactic(auto, unfolding(crate::specs::Ranges::terms_fit))]
     pub(crate) fn fit(&self) -> bool
         ensures { result ≡ terms_fit self.now }
     {
         self.parties_fit() && self.margin_fits() && self.amounts_fit() && self.due_fits()
-    }
-
-    fn same_parties(&self, other: &Terms) -> bool
-        ensures { result ≡ same_parties self.now other.now }
-    {
-        self.day == other.day && self.giver == other.giver && self.taker == other.taker
-    }
-
-    fn same_securities(&self, other: &Terms) -> bool
-        ensures { result ≡ same_securities self.now other.now }
-    {
-        self.currency.number() == other.currency.number()
-            && self.class == other.class
-            && weighing_number(self.weighing) == weighing_number(other.weighing)
-            && self.limit == other.limit
-    }
-
-    fn same_figures(&self, other: &Terms) -> bool
-        ensures { result ≡ same_figures self.now other.now }
-    {
-        self.margin == other.margin
-            && self.sought == other.sought
-            && self.cash == other.cash
-            && self.rate == other.rate
-            && self.due == other.due
-    }
-
-    /// Whether every field is the same.
-    pub(crate) fn same(&self, other: &Terms) -> bool
-        ensures { result ≡ same_terms self.now other.now }
-    {
-        self.same_parties(other) && self.same_securities(other) && self.same_figures(other)
     }
 }

@@ -3,7 +3,7 @@
 //! cost of one check is the difference of two runs, by the difference of their lengths.
 #![tactic(auto)]
 
-use memory::{Deal, Head, Line, NO_DEAL, NO_LINE, Next, Phase, Used, Weighing, fault};
+use memory::{Deal, Head, Line, NO_DEAL, NO_LINE, Next, Phase, Register, Used, Weighing};
 use std::io::Read;
 use valuation::Currency;
 
@@ -68,6 +68,10 @@ fn touch(deals: &mut [Deal], lines: &mut [Line], byte: u8) {
     }
 }
 
+fn is_sound(head: &Head, deals: &[Deal], lines: &[Line]) -> bool {
+    Register { head, deals, lines }.check(64, 128).is_ok()
+}
+
 /// How many checks find nothing.
 fn sound_checks(
     input: &[u8],
@@ -80,12 +84,12 @@ fn sound_checks(
     for byte in input {
         let found = if *byte == b'g' {
             touch(deals, together, *byte);
-            fault(head, deals, together, 64, 128)
+            is_sound(head, deals, together)
         } else {
             touch(deals, in_turns, *byte);
-            fault(head, deals, in_turns, 64, 128)
+            is_sound(head, deals, in_turns)
         };
-        if found.is_none() {
+        if found {
             sound = sound.wrapping_add(1);
         }
     }

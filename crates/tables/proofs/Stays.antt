@@ -1,19 +1,18 @@
 -- Tables that stay filled. Assumes nothing.
-use Rattle.std.proofs.Common.{◌≡◌, ℕ, ◌+◌, ◌-◌, ◌<◌, ◌≤◌, Bool, true, false, cond, ◌&&◌, ltb, ◌⊎◌, List, [], ◌∷◌, ◌++◌, map, length, get_or, take, drop, set, sym, refl, ap, ◌∙◌, subst, inl, inr, ⊎_elim, add-one, arith}
+use Rattle.std.proofs.Common.{◌≡◌, ℕ, ◌+◌, ◌-◌, ◌<◌, ◌≤◌, false, cond, ltb, ◌⊎◌, List, [], ◌∷◌, ◌++◌, map, length, get_or, take, drop, set, sym, refl, ap, ◌∙◌, subst, inl, inr, ⊎_elim, add-one, arith}
 use Rattle.std.proofs.lemmas.List.Edits.{get_or-remove_below, get_or-remove_above}
 use Rattle.std.proofs.ByRecursion.{All-append, All-drop, All-get_or, all-has, all_has_itself, All-push, All-set, All-take, All-weaker}
 use Rattle.std.proofs.lemmas.List.{drop-map, get_or_default, get_or-map, get_or_append_left, get_or_push, get_or-take, length-map, length_push, length-set, length-take-le, map-append, map_push, map-set, set-get_or, take-map}
-use Rattle.std.proofs.lemmas.Bool.{cases_lt, and_parts, cond-true, cond-false, ltb-true, lt-ltb, le-ltb}
+use Rattle.std.proofs.lemmas.Bool.{cases_lt, cond-true, cond-false, lt-ltb, le-ltb}
 use Rattle.std.proofs.lemmas.Bool.Decides.{nat_tests}
 use Rattle.std.specs.List.{ContainsAt as Has, AllByRecursion as Each}
-use Rattle.memory.specs.declared.row.Head.{Head}
 use Rattle.memory.specs.declared.row.Line.{Line}
 use Rattle.memory.specs.Places.{Rising}
 use Rattle.memory.specs.Register.{Filled}
 use Rattle.memory.specs.Rows.{no_line, padded}
 use Rattle.memory.specs.Sound.{return_number}
 use Rattle.memory.proofs.Filled.{filled_padded}
-use Rattle.tables.specs.Rows.{has_room, is_used, removed, without, less_quantity, lowers, empties, lowered_in}
+use Rattle.tables.specs.Rows.{removed, without, less_quantity, empties}
 use Rattle.tables.specs.Stays.{StaysFilled, AddsFilled, RemovesFilled, LowersFilled}
 use Rattle.valuation.specs.declared.currency.Currency.{Currency}
 use Rattle.valuation.specs.declared.price.Price.{Price}
@@ -126,51 +125,28 @@ module _ {X : Type 0} {key : X → ℕ} {z : X} {most used : ℕ} {rows : List X
 
 -- ── what the calls leave ──
 
--- a count and a table that were changed or stayed
-module _ {X : Type 0} (P : ℕ → List X → Type 0) (count : Head → ℕ) (h h' other : Head) (one : ℕ) (less : count other ≡ one) (rows rows' : List X) where
-  by_test : (b : Bool) (changed : List X) → rows' ≡ cond b changed rows → h' ≡ cond b other h → (b ≡ true → P one changed) → P (count h) rows → P (count h') rows'
-  by_test true changed is is-head then stays = along P (sym (ap count is-head ∙ less)) (sym is) (then refl)
-  by_test false changed is is-head then stays = along P (sym (ap count is-head)) (sym is) stays
-
-  by_tests : (b c : Bool) (gone low : List X) → rows' ≡ cond b (cond c gone low) rows → h' ≡ cond (b && c) other h → (b ≡ true → P one gone) → (b ≡ true → c ≡ false → P (count h) low) → P (count h) rows → P (count h') rows'
-  by_tests true true gone low is is-head goes falls stays = along P (sym (ap count is-head ∙ less)) (sym is) (goes refl)
-  by_tests true false gone low is is-head goes falls stays = along P (sym (ap count is-head)) (sym is) (falls refl refl)
-  by_tests false c gone low is is-head goes falls stays = along P (sym (ap count is-head)) (sym is) stays
-
--- a table of which each used row is one of those before, or a new one
-abbrev After : {X : Type 0} → (X → ℕ) → X → ℕ → ℕ → List X → (X → Type 0) → ℕ → List X → Type 0
-After key z most used rows New used' rows' = Filled key (λ y. Has (take used rows) y ⊎ New y) z most used' rows'
-
-module _ {X : Type 0} (key : X → ℕ) (z : X) (most : ℕ) (count : Head → ℕ) (h h' other : Head) (rows rows' : List X) where
-  pub adds_filled : (x : X) → rows' ≡ cond (has_room most (count h) rows) (set rows (count h) x) rows → h' ≡ cond (has_room most (count h) rows) other h → count other ≡ count h + 1 → AddsFilled key z most x (count h) rows (count h') rows'
-  adds_filled x is is-head more above f =
+module _ {X : Type 0} {key : X → ℕ} {z : X} {most used : ℕ} {rows : List X} where
+  pub adds_filled : (x : X) (n count : ℕ) → n ≡ used → count ≡ n + 1 → n < length rows → AddsFilled key z most x used rows count (set rows n x)
+  adds_filled x n count is more room above f =
       let New : X → Type 0 = λ y. y ≡ x in
-      let before = filled_itself New f in
-      by_test (After key z most (count h) rows New) count h h' other (count h + 1) more rows rows' (has_room most (count h) rows) (set rows (count h) x) is is-head
-      (λ t. add_filled before x (ltb-true (count h) (length rows) (and_parts _ _ t).0) above (inr refl))
-      before
+      let more' : used + 1 ≡ count = omega arith in
+      along (Filled key (λ y. Has (take used rows) y ⊎ New y) z most) more' (ap (λ m. set rows m x) (sym is)) (add_filled (filled_itself New f) x (omega arith) above (inr refl))
 
-  pub removes_filled : (i : ℕ) → rows' ≡ cond (is_used most (count h) i rows) (without z (count h) i rows) rows → h' ≡ cond (is_used most (count h) i rows) other h → count other ≡ count h - 1 → RemovesFilled key z most (count h) rows (count h') rows'
-  removes_filled i is is-head less f =
-      let New : X → Type 0 = λ y. ⊥ in
-      let before = filled_itself New f in
-      by_test (After key z most (count h) rows New) count h h' other (count h - 1) less rows rows' (is_used most (count h) i rows) (without z (count h) i rows) is is-head
-      (λ t. remove_filled before i (ltb-true i (count h) (and_parts _ _ t).0))
-      before
+  pub removes_filled : (i n count : ℕ) (rows' : List X) → n ≡ used → count ≡ n - 1 → i < n → rows' ≡ without z n i rows → RemovesFilled key z most used rows count rows'
+  removes_filled i n count rows' is less h gone f =
+      let New : X → Type 0 = λ _. ⊥ in
+      let less' : used - 1 ≡ count = omega arith in
+      along (Filled key (λ y. Has (take used rows) y ⊎ New y) z most) less' (ap (λ m. without z m i rows) (sym is) ∙ sym gone) (remove_filled (filled_itself New f) i (omega arith))
 
-pub lowers_filled : (count : Head → ℕ) (h h' other : Head) (rows rows' : List Line) (i q : ℕ) → rows' ≡ cond (lowers (count h) i q rows) (lowered_in (count h) i q rows) rows → h' ≡ cond (lowers (count h) i q rows && empties i q rows) other h → count other ≡ count h - 1 → LowersFilled i q (count h) rows (count h') rows'
-lowers_filled count h h' other rows rows' i q is is-head less f =
-    let used = count h in
-    let low = less_quantity q (get_or rows i no_line) in
-    let New : Line → Type 0 = λ l. (empties i q rows ≡ false) × (l ≡ low) in
-    let before = filled_itself New f in
-    let listed : lowers used i q rows ≡ true → i < used = λ t. ltb-true i used (and_parts (ltb i used) _ (and_parts (is_used 1024 used i rows) _ t).0).0 in
-    by_tests (After return_number no_line 1024 used rows New) count h h' other (used - 1) less rows rows' (lowers used i q rows) (empties i q rows) (without no_line used i rows) (set rows i low) is is-head
-    (λ t. remove_filled before i (listed t))
-    (λ t rest.
-    let same : low.number ≡ (get_or rows i low).number = ap (λ (l : Line). l.number) (get_or_default rows i no_line low (omega (arith, listed t, f.within))) in
-    set_filled before i low (listed t) same (inr (rest, refl)))
-    before
+  -- with new rows or none
+  pub stays_other : (New : X → Type 0) (used' : ℕ) (rows' : List X) → RemovesFilled key z most used rows used' rows' → StaysFilled key z most New used rows used' rows'
+  stays_other New used' rows' gone f = filled_weaker (λ y. Has (take used rows) y ⊎ New y) (λ y. ⊎_elim (λ h. inl h) (λ h. absurd h)) (gone f)
+
+-- a line that sends back less than it has
+pub lowers_filled : (rows : List Line) (i q used : ℕ) (low : Line) → i < used → empties i q rows ≡ false → low ≡ less_quantity q (get_or rows i no_line) → LowersFilled i q used rows used (set rows i low)
+lowers_filled rows i q used low h rest is f =
+    let same : low.number ≡ (get_or rows i low).number = ap (λ (l : Line). l.number) (is ∙ ap (less_quantity q) (get_or_default rows i no_line low (omega (arith, f.within)))) in
+    set_filled (filled_itself (λ (l : Line). (empties i q rows ≡ false) × (l ≡ less_quantity q (get_or rows i no_line))) f) i low h same (inr (rest, is))
 
 -- cash shared out changes no number
 pub shares_filled : {Holds : Line → Type 0} (Parted : Line → Type 0) (worth : ℕ → ℕ → ℕ → ℕ) (currency : Currency) (ps : List Price) (n cash most used : ℕ) (rows : List Line)

@@ -1,6 +1,8 @@
 -- What lines are worth. Assumes nothing.
-use Rattle.std.proofs.Common.{◌≡◌, ℕ, ◌+◌, ◌-◌, ◌<◌, ◌≤◌, Bool, true, false, cond, ltb, List, [], ◌∷◌, length, get_or, drop, None, sym, refl, ap, ◌∙◌, inl, inr, arith}
-use Rattle.std.proofs.lemmas.List.{at_drop_more, at_drop_all, get_or_past}
+use Rattle.std.proofs.Common.{◌≡◌, ℕ, ◌+◌, ◌-◌, ◌*◌, ◌≤◌, Bool, true, false, cond, ltb, List, [], ◌∷◌, length, None, sym, refl, ap, ◌∙◌, inl, inr, arith}
+use Rattle.std.proofs.lemmas.List.{get_or_past}
+use Rattle.std.proofs.lemmas.List.Sums.{sum_by-cons}
+use Rattle.std.specs.List.{sum_by, filter}
 use Rattle.std.proofs.lemmas.Bool.{and_parts, cases_Bool, cond_both, leb-true}
 use Rattle.std.proofs.lemmas.Bool.Decides.{nat_tests}
 use Rattle.sharing.specs.Parts.{total_of}
@@ -12,7 +14,6 @@ use Rattle.valuation.specs.Most.{most_price, most_units, most_worth}
 use Rattle.valuation.specs.Prices.{price_in, in_ranges, quoted, no_price}
 use Rattle.gathering.specs.Law.{record_of}
 use Rattle.memory.specs.declared.row.Line.{Line}
-use Rattle.memory.specs.Rows.{no_line}
 use Rattle.tables.specs.Values.{priced, worth_of, line_worth, deal_worth, on_deal}
 
 unpriced : (currency : Currency) → quoted currency no_price ≡ None
@@ -47,15 +48,21 @@ module _ (worth : ℕ → ℕ → ℕ → ℕ) (currency : Currency) (ps : List 
     worth_on_most true l = worth_most l.security l.quantity
     worth_on_most false l = omega arith
 
-  -- ── one line more ──
+    pub deal_most : (n : ℕ) (ls : List Line) → deal_worth worth currency ps n ls ≤ most_worth * length ls
+    unfolding deal_worth
+    deal_most n [] = omega arith
+    deal_most n (l ∷ ls) = omega (arith, worth_on_most (on_deal n l) l, deal_most n ls)
 
-  pub deal_more : (n : ℕ) (ls : List Line) (i : ℕ) → i < length ls → deal_worth worth currency ps n (drop i ls) ≡ cond (on_deal n (get_or ls i no_line)) (line_worth worth currency ps (get_or ls i no_line)) 0 + deal_worth worth currency ps n (drop (i + 1) ls)
-  unfolding deal_worth
-  deal_more n ls i h = at_drop_more (deal_worth worth currency ps n) ls i no_line h
+  -- ── the lines of a deal together ──
 
-  pub deal_all : (n : ℕ) (ls : List Line) (i : ℕ) → length ls ≤ i → deal_worth worth currency ps n (drop i ls) ≡ 0
+  pub deal_sum : (n : ℕ) (ls : List Line) → sum_by (line_worth worth currency ps) (filter (on_deal n) ls) ≡ deal_worth worth currency ps n ls
   unfolding deal_worth
-  deal_all n ls i h = at_drop_all (deal_worth worth currency ps n) ls i h
+  deal_sum n [] = refl
+  deal_sum n (l ∷ ls) =
+      elim (cases_Bool (on_deal n l)) [
+        | inl t ↦ rw t (omega (arith, sum_by-cons (line_worth worth currency ps) l (filter (on_deal n) ls), deal_sum n ls))
+        | inr e ↦ rw e (omega (arith, deal_sum n ls))
+      ]
 
   -- the sum of the worths, one by one
   pub deal_total : (n : ℕ) (ls : List Line) → deal_worth worth currency ps n ls ≡ total_of (picked (on_deal n) (line_worth worth currency ps) ls)

@@ -1,8 +1,8 @@
 -- Rows that come into a table, change in it and go from it, where the used rows come first.
 use Rattle.std.specs.Prelude.{ℕ, ◌+◌, ◌-◌, Bool, cond, ◌&&◌, List, ◌∷◌, ◌++◌, length, get_or, take, drop, ◌==◌, nat_le, nat_lt, slice_index_or, slice_set}
-use Rattle.memory.specs.declared.row.Head.{Head}
 use Rattle.memory.specs.declared.row.Line.{Line}
 use Rattle.memory.specs.Rows.{no_line}
+pub use Rattle.memory.specs.Rows.{using_deals, using_lines}
 
 -- as many used rows as the table has, and no more rows than it may have
 abbrev pub fits : {X : Type 0} → ℕ → ℕ → List X → Bool
@@ -23,12 +23,6 @@ removed i xs = take i xs ++ drop (i + 1) xs
 -- a table without its used row at i: the used rows after it move up, and the last of them is z
 abbrev pub without : {X : Type 0} → X → ℕ → ℕ → List X → List X
 without z used i rows = removed i (take used rows) ++ (z ∷ drop used rows)
-
-abbrev pub using_deals : ℕ → Head → Head
-using_deals n h = record { date = h.date; phase = h.phase; next = h.next; used = record { deals = n; lines = h.used.lines } }
-
-abbrev pub using_lines : ℕ → Head → Head
-using_lines n h = record { date = h.date; phase = h.phase; next = h.next; used = record { deals = h.used.deals; lines = n } }
 
 -- ── a line that sends back ──
 

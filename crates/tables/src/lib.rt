@@ -10,8 +10,5 @@ mod totals;
 mod worth;
 
 pub use deals::{add_deal, remove_deal};
-pub use held::held_worths;
 pub use lines::{add_line, lower_line};
-pub use sharing_out::share_out;
-pub use totals::deal_worth;
-pub use worth::{line_worth, quantity_worth};
+pub use worth::Pricing;

@@ -9,45 +9,39 @@ ghost use Rattle.tables.specs.Values.{worth_of, line_worth};
 use memory::Line;
 use valuation::{Currency, Price, Quote, Units, Valuation};
 
-/// The quote of a security: its record is the first for security 3, the second for 4, and so on.
-fn quote_of(prices: &[Price], currency: Currency, security: u32) -> Option<Quote>
-    ensures { option_map terms result ≡ quoted currency (record_of prices.now security) }
-{
-    let place = (security as usize).saturating_sub(3);
-    if place >= prices.len() {
-        return None;
-    }
-    Quote::of(&prices[place], currency)
+/// How a deal's securities are priced: by a valuation, over the price records, in the deal's currency.
+#[derive(Drop)]
+pub struct Pricing<'a, V> {
+    pub valuation: &'a V,
+    pub prices: &'a [Price],
+    pub currency: Currency,
 }
 
-/// What a quantity of a security is worth in a currency. It is 0 where the security has no price, and above
-/// 1,000,000,000 units.
-pub fn quantity_worth<V: Valuation>(
-    valuation: &V,
-    prices: &[Price],
-    currency: Currency,
-    security: u32,
-    quantity: u64,
-) -> u64
-    ensures { result ≡ worth_of (V.Valuation.worth valuation.now) currency prices.now security quantity }
-{
-    let Some(quote) = quote_of(prices, currency, security) else {
-        return 0;
-    };
-    match Units::new(quantity) {
-        Some(units) => valuation.value(quote, units),
-        None => 0,
+impl<V> Pricing<'_, V> {
+    /// The quote of a security: its record is the first for security 3, the second for 4, and so on.
+    fn quote_of(&self, security: u32) -> Option<Quote>
+        ensures { option_map terms result ≡ quoted self.now.currency (record_of self.now.prices.now security) }
+    {
+        let place = (security as usize).saturating_sub(3);
+        Quote::of(self.prices.get(place)?, self.currency)
     }
 }
 
-/// What a line is worth.
-pub fn line_worth<V: Valuation>(
-    valuation: &V,
-    prices: &[Price],
-    currency: Currency,
-    line: &Line,
-) -> u64
-    ensures { result ≡ line_worth (V.Valuation.worth valuation.now) currency prices.now line.now }
-{
-    quantity_worth(valuation, prices, currency, line.security, line.quantity)
+impl<V: Valuation> Pricing<'_, V> {
+    /// What a quantity of a security is worth. It is 0 where the security has no price, and above 1,000,000,000 units.
+    pub fn quantity_worth(&self, security: u32, quantity: u64) -> u64
+        ensures { result ≡ worth_of (V.Valuation.worth self.now.valuation.now) self.now.currency self.now.prices.now security quantity }
+    {
+        match (self.quote_of(security), Units::new(quantity)) {
+            (Some(quote), Some(units)) => self.valuation.value(quote, units),
+            _ => 0,
+        }
+    }
+
+    /// What a line is worth.
+    pub fn line_worth(&self, line: &Line) -> u64
+        ensures { result ≡ line_worth (V.Valuation.worth self.now.valuation.now) self.now.currency self.now.prices.now line.now }
+    {
+        self.quantity_worth(line.security, line.quantity)
+    }
 }

@@ -1,16 +1,18 @@
 -- The lines of a script.
-use Rattle.std.specs.Prelude.{ℕ, ◌+◌, ◌-◌, ◌^◌, min, cond, List, [], ◌∷◌, length, Some, None, Option, ◌==◌}
+use Rattle.std.specs.Prelude.{ℕ, Bool, ◌+◌, ◌-◌, ◌^◌, min, cond, List, length, Some, None, Option, ◌==◌, take, drop}
 use Rattle.std.specs.Borrow.{Bor}
+use Rattle.text.specs.Words.{place_or_end}
+
+abbrev pub newline : ℕ → Bool
+newline c = c == 10
 
 -- the bytes before the first newline
-unfoldable pub line_in : List ℕ → List ℕ
-line_in [] = []
-line_in (c ∷ cs) = cond (c == 10) [] (c ∷ line_in cs)
+abbrev pub line_in : List ℕ → List ℕ
+line_in s = take (place_or_end newline s) s
 
 -- the bytes behind it
-unfoldable pub behind_line : List ℕ → List ℕ
-behind_line [] = []
-behind_line (c ∷ cs) = cond (c == 10) cs (behind_line cs)
+abbrev pub behind_line : List ℕ → List ℕ
+behind_line s = drop (place_or_end newline s + 1) s
 
 -- a count of lines, which stops at the largest that its type has
 abbrev pub one_more : ℕ → ℕ

@@ -1,5 +1,6 @@
 -- The words of a line.
-use Rattle.std.specs.Prelude.{ℕ, Bool, cond, ◌||◌, List, [], ◌∷◌, ◌==◌}
+use Rattle.std.specs.Prelude.{ℕ, Bool, not, ◌||◌, List, ◌==◌, length, take, drop, position}
+use Rattle.std.specs.Option.{unwrap_or}
 
 -- a space or a tab
 abbrev pub blank : ℕ → Bool
@@ -9,20 +10,21 @@ blank c = c == 32 || c == 9
 abbrev pub ending : ℕ → Bool
 ending c = blank c || c == 35
 
+-- where the first byte that passes a test stands, or else the end
+abbrev pub place_or_end : (ℕ → Bool) → List ℕ → ℕ
+place_or_end p s = unwrap_or (position p s) (length s)
+
 -- what is left from the first byte on that is no blank
-unfoldable pub skipped : List ℕ → List ℕ
-skipped [] = []
-skipped (c ∷ cs) = cond (blank c) (skipped cs) (c ∷ cs)
+abbrev pub skipped : List ℕ → List ℕ
+skipped s = drop (place_or_end (λ c. not (blank c)) s) s
 
 -- the bytes before the next blank or comment
-unfoldable pub word_of : List ℕ → List ℕ
-word_of [] = []
-word_of (c ∷ cs) = cond (ending c) [] (c ∷ word_of cs)
+abbrev pub word_of : List ℕ → List ℕ
+word_of s = take (place_or_end ending s) s
 
 -- and what is left behind them
-unfoldable pub after_word : List ℕ → List ℕ
-after_word [] = []
-after_word (c ∷ cs) = cond (ending c) (c ∷ cs) (after_word cs)
+abbrev pub after_word : List ℕ → List ℕ
+after_word s = drop (place_or_end ending s) s
 
 -- the next word of what is left, and what is left then
 abbrev pub next : List ℕ → List ℕ

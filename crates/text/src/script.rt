@@ -1,20 +1,13 @@
 //! A script, line by line.
-ghost use Rattle.std.specs.Prelude.{◌≡◌, ◌≤◌, length, take, drop, is_some, if◌then◌else◌};
-ghost use Rattle.std.specs.Option.{option_map};
-ghost use Rattle.text.specs.Lines.{line_in, behind_line, one_more, numbered, line_left};
+ghost use Rattle.std.specs.Prelude.{◌≡◌, position};
+ghost use Rattle.text.specs.Lines.{newline, line_in, behind_line};
+ghost use Rattle.text.specs.Scripts.{GivesLine, lines_at_most};
 
-/// Where the first line ends, and where the text goes on behind it.
-fn line_bounds(text: &[u8]) -> (usize, usize)
-    ensures line { take result.0 text.now ≡ line_in text.now }
-    ensures behind { drop result.1 text.now ≡ behind_line text.now }
-    ensures within { (result.0 ≤ length text.now) × (result.1 ≤ length text.now) }
+/// Where the first newline stands.
+fn newline(text: &[u8]) -> Option<usize>
+    ensures { result ≡ position newline text.now }
 {
-    for i in 0..text.len() {
-        if text[i] == b'\n' {
-            return (i, i + 1);
-        }
-    }
-    (text.len(), text.len())
+    text.iter().position(|&byte| byte == b'\n')
 }
 
 /// The first line of a text, and what is behind its newline.
@@ -22,8 +15,10 @@ pub fn split_line(text: &[u8]) -> (&[u8], &[u8])
     ensures line { result.0.now ≡ line_in text.now }
     ensures behind { result.1.now ≡ behind_line text.now }
 {
-    let (end, behind) = line_bounds(text);
-    (text.split_at(end).0, text.split_at(behind).1)
+    match newline(text) {
+        Some(end) => (&text[..end], &text[end + 1..]),
+        None => (text, &[]),
+    }
 }
 
 /// What is left of a script, and how many of its lines were read.
@@ -43,13 +38,17 @@ impl<'a> Script<'a> {
             lines: 0,
         }
     }
+}
 
-    /// The next line with its number from 1, where bytes are left.
-    pub fn next_line(&mut self) -> Option<(usize, &'a [u8])>
-        ensures answer { option_map numbered result ≡ line_left self.old.lines self.old.rest.now }
-        ensures rest { self.new.rest.now ≡ (if is_some result then behind_line self.old.rest.now else self.old.rest.now) }
-        ensures lines { self.new.lines ≡ (if is_some result then one_more self.old.lines else self.old.lines) }
-    {
+/// The lines with bytes or a newline, each with its number from 1.
+impl<'a> Iterator for Script<'a> {
+    type Item = (usize, &'a [u8]);
+
+    ghost next_gives = { GivesLine };
+
+    ghost remaining = { lines_at_most };
+
+    fn next(&mut self) -> Option<(usize, &'a [u8])> {
         if self.rest.is_empty() {
             return None;
         }

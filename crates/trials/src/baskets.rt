@@ -1,5 +1,5 @@
 //! What is gathered, at its edges.
-use books::{Grid, check as check_memory};
+use books::{Grid, Laid};
 use gathering::{Basket, Order, gather};
 use std::process::Abort;
 use std::test::Fail;
@@ -38,9 +38,7 @@ type Case = (
 fn check_cases(rt: &impl Abort, cases: &[Case]) -> Result<(), Fail> {
     for (each, prices, target, need, held, expected) in cases.iter().copied() {
         let mut amounts = [each; 256];
-        if let Err(_) = check_memory(2, 128, &amounts) {
-            return Err(Fail::new("the amounts"));
-        }
+        let laid = Laid::over(2, 128, &mut amounts[..]).map_err(|_| Fail::new("the amounts"))?;
         let order = Order {
             giver: 1,
             currency: Currency::Gbp,
@@ -49,7 +47,7 @@ fn check_cases(rt: &impl Abort, cases: &[Case]) -> Result<(), Fail> {
             target,
             need,
         };
-        let grid = Grid::over(2, 128, 0, &mut amounts);
+        let grid = Grid::over(laid, 0);
         let basket = gather(&grid, &Haircut, prices, order, held);
         assert_eq!(rt; (need, last_of(basket)), (need, expected));
     }

@@ -2,7 +2,7 @@
 use crate::movements::{MOVEMENTS, OPENING};
 use crate::sealed::Sealed;
 use book::{Book, BookRefusal, Movement, RefusedAt, attempt, held_by_all, perform, rehearse};
-use books::{BLANK, Grid, Holdback, Journal, check as check_memory};
+use books::{BLANK, Grid, Holdback, Journal, Laid, check as check_memory};
 use std::process::Abort;
 use std::test::Fail;
 
@@ -77,14 +77,10 @@ fn grid_and_journal_are_one(rt: HostRuntime) -> Result<(), Fail> {
     let opening = OPENING;
     let mut amounts = OPENING;
     let mut postings = [BLANK; 130];
-    if let Err(_) = check_memory(5, 7, &opening) {
-        return Err(Fail::new("the opening amounts"));
-    }
-    if let Err(_) = check_memory(5, 7, &amounts) {
-        return Err(Fail::new("the amounts"));
-    }
-    let mut grid = Grid::over(5, 7, 130, &mut amounts);
-    let mut journal = Journal::over(5, 7, &opening, &mut postings);
+    let opening = Laid::over(5, 7, &opening[..]).map_err(|_| Fail::new("the opening amounts"))?;
+    let amounts = Laid::over(5, 7, &mut amounts[..]).map_err(|_| Fail::new("the amounts"))?;
+    let mut grid = Grid::over(amounts, 130);
+    let mut journal = Journal::over(opening, &mut postings);
     assert!(rt; alike(&grid, &journal));
     assert_eq!(rt;
         run_both(&rt, &mut grid, &mut journal),
@@ -98,14 +94,10 @@ fn layers_over_them_are_one(rt: HostRuntime) -> Result<(), Fail> {
     let opening = OPENING;
     let mut amounts = OPENING;
     let mut postings = [BLANK; 130];
-    if let Err(_) = check_memory(5, 7, &opening) {
-        return Err(Fail::new("the opening amounts"));
-    }
-    if let Err(_) = check_memory(5, 7, &amounts) {
-        return Err(Fail::new("the amounts"));
-    }
-    let grid = Grid::over(5, 7, 130, &mut amounts);
-    let journal = Journal::over(5, 7, &opening, &mut postings);
+    let opening = Laid::over(5, 7, &opening[..]).map_err(|_| Fail::new("the opening amounts"))?;
+    let amounts = Laid::over(5, 7, &mut amounts[..]).map_err(|_| Fail::new("the amounts"))?;
+    let grid = Grid::over(amounts, 130);
+    let journal = Journal::over(opening, &mut postings);
     let answers = run_layers(&rt, grid, journal);
     assert_eq!(rt; answers, [104, 78, 11, 105, 22, 0]);
     Ok(())
@@ -159,14 +151,10 @@ fn movements_at_their_edges(rt: HostRuntime) -> Result<(), Fail> {
     let opening = [0, 0, 0, 6, 0, 0, 0, LIMIT - 4];
     let mut amounts = opening;
     let mut postings = [BLANK; 2];
-    if let Err(_) = check_memory(2, 4, &opening) {
-        return Err(Fail::new("the opening amounts"));
-    }
-    if let Err(_) = check_memory(2, 4, &amounts) {
-        return Err(Fail::new("the amounts"));
-    }
-    edges(&rt, &mut Grid::over(2, 4, 2, &mut amounts));
-    edges(&rt, &mut Journal::over(2, 4, &opening, &mut postings));
+    let first = Laid::over(2, 4, &opening[..]).map_err(|_| Fail::new("the opening amounts"))?;
+    let laid = Laid::over(2, 4, &mut amounts[..]).map_err(|_| Fail::new("the amounts"))?;
+    edges(&rt, &mut Grid::over(laid, 2));
+    edges(&rt, &mut Journal::over(first, &mut postings));
     assert_eq!(rt; amounts, [0, 0, 0, 3, 0, 0, 0, LIMIT - 1]);
     assert_eq!(rt; postings[1].sender, LIMIT - 1);
     assert_eq!(rt; postings[1].receiver, 3);
@@ -204,10 +192,8 @@ fn rows<X: Book + Drop>(rt: &impl Abort, below: X) {
 fn rows_at_their_edges(rt: HostRuntime) -> Result<(), Fail> {
     let mut amounts = [0; 40];
     amounts[3] = 6;
-    if let Err(_) = check_memory(2, 20, &amounts) {
-        return Err(Fail::new("the amounts"));
-    }
-    rows(&rt, Grid::over(2, 20, 9, &mut amounts));
+    let laid = Laid::over(2, 20, &mut amounts[..]).map_err(|_| Fail::new("the amounts"))?;
+    rows(&rt, Grid::over(laid, 9));
     Ok(())
 }
 
@@ -245,10 +231,8 @@ fn lists<X: Book>(rt: &impl Abort, book: &mut X) {
 fn lists_as_a_whole(rt: HostRuntime) -> Result<(), Fail> {
     let mut amounts = [0; 12];
     amounts[3] = 10;
-    if let Err(_) = check_memory(3, 4, &amounts) {
-        return Err(Fail::new("the amounts"));
-    }
-    lists(&rt, &mut Grid::over(3, 4, 3, &mut amounts));
+    let laid = Laid::over(3, 4, &mut amounts[..]).map_err(|_| Fail::new("the amounts"))?;
+    lists(&rt, &mut Grid::over(laid, 3));
     Ok(())
 }
 
@@ -270,10 +254,8 @@ fn sealed<X: Book + Drop>(rt: &impl Abort, below: X) {
 fn a_sealed_book_takes_nothing(rt: HostRuntime) -> Result<(), Fail> {
     let mut amounts = [0; 12];
     amounts[3] = 10;
-    if let Err(_) = check_memory(3, 4, &amounts) {
-        return Err(Fail::new("the amounts"));
-    }
-    sealed(&rt, Grid::over(3, 4, 3, &mut amounts));
+    let laid = Laid::over(3, 4, &mut amounts[..]).map_err(|_| Fail::new("the amounts"))?;
+    sealed(&rt, Grid::over(laid, 3));
     Ok(())
 }
 

@@ -1,5 +1,5 @@
 //! Cash that is shared, and interest, at their edges.
-use sharing::{DayBase, SharingRefusal, accrue, apportion};
+use sharing::{DayBase, Interest, SharingRefusal, apportion};
 
 const MOST_CASH: u64 = 1_000_000_000_000;
 
@@ -105,15 +105,37 @@ fn interest(rt: HostRuntime) {
         (u64::MAX, u64::MAX, u64::MAX, u32::MAX, u16::MAX, None),
     ] {
         assert_eq!(rt;
-            (cash, accrue(whole, residue, cash, rate, days, gbp)),
-            (cash, expected)
+            (
+                cash,
+                Interest { whole, residue }.accrue(cash, rate, days, gbp)
+            ),
+            (
+                cash,
+                expected.map(|(whole, residue)| Interest { whole, residue })
+            )
         );
     }
     let usd = DayBase::Actual360;
-    assert_eq!(rt; accrue(0, 359_999_999, 1, 1, 1, usd), Some((1, 0)));
-    assert_eq!(rt; accrue(0, 360_000_000, 1, 1, 1, usd), None);
+    let short = Interest {
+        whole: 0,
+        residue: 359_999_999,
+    };
+    let one = Interest {
+        whole: 1,
+        residue: 0,
+    };
+    assert_eq!(rt; short.accrue(1, 1, 1, usd), Some(one));
+    let full = Interest {
+        whole: 0,
+        residue: 360_000_000,
+    };
+    assert_eq!(rt; full.accrue(1, 1, 1, usd), None);
+    let most = Interest {
+        whole: 17_222_222_222,
+        residue: 80_000_000,
+    };
     assert_eq!(rt;
-        accrue(0, 0, MOST_CASH, 200_000, 31, usd),
-        Some((17_222_222_222, 80_000_000))
+        Interest::default().accrue(MOST_CASH, 200_000, 31, usd),
+        Some(most)
     );
 }

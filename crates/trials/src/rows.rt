@@ -1,6 +1,6 @@
 //! The start of a register, rows by their numbers, and what a deal's row answers.
 use crate::register::{DEALS, HEAD, LINES};
-use memory::{Deal, Head, NO_DEAL, NO_LINE, Used, begin, fault, find_deal, find_line};
+use memory::{Deal, Head, NO_DEAL, NO_LINE, Register, Used, begin, find};
 use valuation::{Currency, Price, Quote, Units, Valuation};
 
 #[test]
@@ -8,12 +8,17 @@ fn a_fresh_register(rt: HostRuntime) {
     let mut head = HEAD;
     let mut deals = DEALS;
     let mut lines = LINES;
-    assert!(rt; begin(&mut head, &mut deals, &mut lines, 7).is_none());
+    assert!(rt; begin(&mut head, &mut deals, &mut lines, 7).is_ok());
     assert!(rt; head.date == 7 && head.phase.number() == 0);
     assert!(rt; head.next.deal == 1 && head.next.line == 1);
     assert!(rt; head.used.deals == 0 && head.used.lines == 0);
     assert!(rt; deals[1].cash == 0 && lines[2].part == 0);
-    assert!(rt; fault(&head, &deals, &lines, 0, 0).is_none());
+    let register = Register {
+        head: &head,
+        deals: &deals,
+        lines: &lines,
+    };
+    assert!(rt; register.check(0, 0).is_ok());
 }
 
 /// The table of a wrong length, and the date that then stands.
@@ -28,8 +33,8 @@ fn begun(deals: usize, lines: usize) -> (Option<(u32, usize)>, u16) {
         7,
     );
     match found {
-        Some(fault) => (Some((fault.table.number(), fault.row)), head.date),
-        None => (None, head.date),
+        Err(fault) => (Some((fault.table.number(), fault.row)), head.date),
+        Ok(()) => (None, head.date),
     }
 }
 
@@ -58,16 +63,16 @@ fn rows_by_number(rt: HostRuntime) {
         (19, None, Some(2)),
         (u32::MAX, None, None),
     ] {
-        assert_eq!(rt; (number, find_deal(&HEAD, &DEALS, number)), (number, deal));
-        assert_eq!(rt; (number, find_line(&HEAD, &LINES, number)), (number, line));
+        assert_eq!(rt; (number, find(&HEAD, &DEALS, number)), (number, deal));
+        assert_eq!(rt; (number, find(&HEAD, &LINES, number)), (number, line));
     }
     let fewer = Head {
         used: Used { deals: 1, lines: 2 },
         ..HEAD
     };
-    assert_eq!(rt; find_deal(&fewer, &DEALS, 9), None);
-    assert_eq!(rt; find_line(&fewer, &LINES, 19), None);
-    assert_eq!(rt; find_line(&fewer, &LINES, 2), Some(1));
+    assert_eq!(rt; find(&fewer, &DEALS, 9), None);
+    assert_eq!(rt; find(&fewer, &LINES, 19), None);
+    assert_eq!(rt; find(&fewer, &LINES, 2), Some(1));
 }
 
 #[test]

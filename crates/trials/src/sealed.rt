@@ -2,7 +2,7 @@
 ghost use Rattle.std.specs.Prelude.{◌≡◌};
 ghost use Rattle.trials.specs.Sealed.{sealed, sealed_lawful};
 
-use book::{Book, BookRefusal, Movement, amount_at, holdback_at, judge};
+use book::{Book, BookRefusal, Movement};
 
 /// A book after hours.
 #[derive(Drop)]
@@ -38,17 +38,6 @@ impl<B: Book> Book for Sealed<B> {
     }
 
     fn transfer(&mut self, movement: Movement) -> Result<(), BookRefusal> {
-        let had = amount_at(&self.below, movement.from, movement.resource);
-        let held = holdback_at(&self.below, movement.from, movement.resource);
-        let has = amount_at(&self.below, movement.to, movement.resource);
-        judge(
-            self.below.accounts(),
-            self.below.resources(),
-            had,
-            held,
-            has,
-            0,
-            movement,
-        )
+        self.judge(movement)
     }
 }

@@ -1,12 +1,13 @@
 //! Registers that break a rule: the first that is broken is told by its table and row.
 use crate::damages::{DEAL_FIELDS, HEADS, JOINT, LINE_FIELDS, LOOSE, SUMS, TWO, UNUSED};
 use crate::register::{Case, DEALS, Damage, HEAD, LINES};
-use memory::{Deal, Head, Line, NO_DEAL, NO_LINE, Next, Used, fault};
+use memory::{Deal, Head, Line, NO_DEAL, NO_LINE, Next, Register, Used};
 use std::process::Abort;
 
 /// The table and the row of the first fault, over a book of 4 accounts and 6 resources.
 fn place(head: &Head, deals: &[Deal], lines: &[Line]) -> Option<(u32, usize)> {
-    let found = fault(head, deals, lines, 4, 6)?;
+    let register = Register { head, deals, lines };
+    let found = register.check(4, 6).err()?;
     Some((found.table.number(), found.row))
 }
 

@@ -3,7 +3,7 @@ use Rattle.std.proofs.Common.{◌≡◌, ℕ, zero, suc, ◌+◌, ◌-◌, ◌<�
 use Rattle.std.specs.Option.{option_or}
 use Rattle.std.proofs.lemmas.Bool.{cases_eq, cases_Bool, cond-true, cond-false, cond_both, both_ways, lt-ltb, le-ltb, ltb-false}
 use Rattle.valuation.specs.Best.{largest_up_to, smallest_up_to}
-use Rattle.valuation.specs.Limits.{Between}
+use Rattle.valuation.specs.Seeking.{Between}
 use Rattle.valuation.specs.Stands.{IsLargest, IsSmallest, NonePasses}
 
 one_after : (l n : ℕ) → l ≤ n → option_or (cond (ltb l n) (Some (l + 1)) None) (Some (suc n)) ≡ cond (ltb l (suc n)) (Some (l + 1)) None

@@ -1,4 +1,4 @@
 pub mod Bests
 pub mod Faults
-pub mod Limits
+pub mod Halvings
 pub mod Quantities

@@ -1,6 +1,6 @@
 pub mod Best
 pub mod Currencies
-pub mod Limits
+pub mod Seeking
 pub mod Most
 pub mod Prices
 pub mod Ranges

@@ -1,5 +1,5 @@
 -- What a price record and a price list state.
-use Rattle.std.specs.Prelude.{ℕ, ◌+◌, ◌/◌, ◌%◌, ◌^◌, Bool, false, cond, not, ◌&&◌, List, [], ◌∷◌, length, Some, None, Option, ◌==◌, nat_le, nat_lt}
+use Rattle.std.specs.Prelude.{ℕ, ◌+◌, ◌/◌, ◌%◌, ◌^◌, Bool, false, cond, not, ◌&&◌, List, length, position, Some, None, Option, ◌==◌, nat_le, nat_lt}
 use Rattle.valuation.specs.declared.currency.Currency.{Currency}
 use Rattle.valuation.specs.declared.currency.Currency.TheVariants.{Gbp, Eur, Usd}
 use Rattle.valuation.specs.declared.price.Price.{Price}
@@ -22,14 +22,13 @@ admits class category = nat_lt category 16 && class / 2 ^ category % 2 == 1
 abbrev pub eligible_in : ℕ → Currency → Price → Bool
 eligible_in class currency p = admits class p.category && (not p.excluded && nat_lt 0 (price_in currency p))
 
--- the place of the first record out of its ranges, where places count from i
-unfoldable pub first_fault : ℕ → List Price → Option ℕ
-first_fault i [] = None
-first_fault i (p ∷ ps) = cond (in_ranges p) (first_fault (i + 1) ps) (Some i)
+-- the place of the first record out of its ranges
+abbrev pub first_fault : List Price → Option ℕ
+first_fault ps = position (λ p. not (in_ranges p)) ps
 
 -- the fault of a list, which has a record for each resource but the three currencies
 abbrev pub fault_of : ℕ → List Price → Option ℕ
-fault_of resources ps = cond (3 + length ps == resources) (first_fault 0 ps) (Some 0)
+fault_of resources ps = cond (3 + length ps == resources) (first_fault ps) (Some 0)
 
 -- the price and the haircut of a record in its ranges that has a price in the currency
 abbrev pub quoted : Currency → Price → Option (ℕ × ℕ)

@@ -2,11 +2,13 @@
 ghost use Rattle.std.specs.Prelude.{◌≡◌};
 ghost use Rattle.valuation.specs.Currencies.{number_of};
 
-#[derive(Clone, Copy)]
+use std::fmt;
+
+#[derive(Clone, Copy, PartialEq, Eq, Debug)]
 pub enum Currency {
-    Gbp,
-    Eur,
-    Usd,
+    Gbp = 0,
+    Eur = 1,
+    Usd = 2,
 }
 
 impl Currency {
@@ -14,10 +16,16 @@ impl Currency {
     pub fn number(self) -> u32
         ensures { result ≡ number_of self }
     {
+        self as u32
+    }
+}
+
+impl fmt::Display for Currency {
+    fn fmt<W: fmt::Write>(&self, f: &mut fmt::Formatter<W>) -> fmt::Result {
         match self {
-            Currency::Gbp => 0,
-            Currency::Eur => 1,
-            Currency::Usd => 2,
+            Currency::Gbp => write!(f, "GBP"),
+            Currency::Eur => write!(f, "EUR"),
+            Currency::Usd => write!(f, "USD"),
         }
     }
 }

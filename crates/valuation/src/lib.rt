@@ -2,16 +2,15 @@
 #![tactic(auto)]
 
 mod currency;
-mod making;
 mod price;
 mod ranges;
-mod search;
+mod seeking;
 mod stands;
 mod worth;
 
 pub use currency::Currency;
 pub use price::{Price, price_fault};
 pub use ranges::{Margin, Quote, Sought, Units};
-pub use search::{largest, most_taken, smallest};
+pub use seeking::{largest, most_taken, smallest};
 pub use stands::definitions_stand;
 pub use worth::{Haircut, Valuation};

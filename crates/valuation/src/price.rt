@@ -1,11 +1,11 @@
 //! The price list: a record for each security.
-ghost use Rattle.std.specs.Prelude.{◌≡◌, ◌+◌, ◌<◌, length, drop, if◌then◌else◌, Some};
+ghost use Rattle.std.specs.Prelude.{◌≡◌};
 ghost use Rattle.valuation.specs.Prices.{price_in, in_ranges, eligible_in, first_fault, fault_of};
 
 use crate::currency::Currency;
 
 /// What is stated of a security. It is memory that a host lends, so any contents are possible.
-#[derive(Clone, Copy)]
+#[derive(Clone, Copy, PartialEq, Eq, Debug)]
 pub struct Price {
     /// 0 to 15.
     pub category: u8,
@@ -50,26 +50,20 @@ impl Price {
     }
 }
 
-/// Whether the record at `place` is out of its ranges, and so the first fault from there on.
-fn faulty_at(prices: &[Price], place: usize) -> bool
-    requires { place < length prices.now }
-    ensures { first_fault place (drop place prices.now) ≡ (if result then Some place else first_fault (place + 1) (drop (place + 1) prices.now)) }
+/// The place of the first record that is out of its ranges.
+fn first_fault(prices: &[Price]) -> Option<usize>
+    ensures { result ≡ first_fault prices.now }
 {
-    !prices[place].in_ranges()
+    prices.iter().position(|price| !price.in_ranges())
 }
 
 /// The place of the first record that is out of its ranges; 0 where the list has not one record for each
-/// security of a book with so many resources.
+/// security of a book with so many resources. A place, or none: a question, of which the caller makes its own refusal.
 pub fn price_fault(prices: &[Price], resources: u32) -> Option<usize>
     ensures { result ≡ fault_of resources prices.now }
 {
     if resources < 3 || prices.len() != resources as usize - 3 {
         return Some(0);
     }
-    for place in 0..prices.len() {
-        if faulty_at(prices, place) {
-            return Some(place);
-        }
-    }
-    None
+    first_fault(prices)
 }

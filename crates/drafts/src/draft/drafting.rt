@@ -1,37 +1,20 @@
 //! The making, filling and reading of a draft.
 ghost use Rattle.std.specs.Prelude.{◌≡◌, [], ◌∷◌, ◌++◌, length, if◌then◌else◌, nat_lt};
-ghost use Rattle.law.specs.Slips.{movement_of, movements_of};
-ghost use Rattle.drafts.specs.Drafts.{slips_of, most_slips};
+ghost use Rattle.law.specs.Slips.{movements_of};
+ghost use Rattle.drafts.specs.Drafts.{slips_of, most_slips, put_answer};
 
-use crate::draft::Draft;
+use crate::draft::{Draft, DraftFull};
+use arrayvec::ArrayVec;
 use book::Movement;
-use memory::{NO_SLIP, Slip};
-
-fn movement_of(slip: Slip) -> Movement
-    ensures { result ≡ movement_of slip }
-{
-    Movement {
-        from: slip.from,
-        to: slip.to,
-        resource: slip.resource,
-        quantity: slip.amount,
-    }
-}
+use memory::Slip;
 
 impl Draft {
     pub fn empty() -> Draft
         ensures { slips_of result ≡ [] }
     {
-        let none = Movement {
-            from: 0,
-            to: 0,
-            resource: 0,
-            quantity: 0,
-        };
         Draft {
-            slips: [NO_SLIP; 1024],
-            moves: [none; 1024],
-            count: 0,
+            slips: ArrayVec::new(),
+            moves: ArrayVec::new(),
         }
     }
 
@@ -39,27 +22,26 @@ impl Draft {
     pub fn slips(&self) -> &[Slip]
         ensures { result.now ≡ slips_of self.now }
     {
-        &self.slips[0..self.count]
+        self.slips.as_slice()
     }
 
     /// The movements that the slips record, in order.
     pub fn moves(&self) -> &[Movement]
         ensures { result.now ≡ movements_of (slips_of self.now) }
     {
-        &self.moves[0..self.count]
+        self.moves.as_slice()
     }
 
-    /// Adds a slip. False, and nothing changes, where there are 1,024.
-    pub fn put(&mut self, slip: Slip) -> bool
-        ensures answer { result ≡ nat_lt (length (slips_of self.old)) most_slips }
+    /// Adds a slip. Where there are 1,024, nothing changes.
+    pub fn put(&mut self, slip: Slip) -> Result<(), DraftFull>
+        ensures answer { result ≡ put_answer (slips_of self.old) }
         ensures slips { slips_of self.new ≡ (if nat_lt (length (slips_of self.old)) most_slips then slips_of self.old ++ (slip ∷ []) else slips_of self.old) }
     {
-        if self.count >= 1_024 {
-            return false;
+        if self.slips.is_full() {
+            return Err(DraftFull);
         }
-        self.slips[self.count] = slip;
-        self.moves[self.count] = movement_of(slip);
-        self.count += 1;
-        true
+        self.slips.push(slip);
+        self.moves.push(Movement::from(slip));
+        Ok(())
     }
 }

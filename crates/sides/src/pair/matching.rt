@@ -9,11 +9,12 @@ use crate::side::{GiverSide, TakerSide};
 use crate::terms::Terms;
 
 /// A pair where the sides are equal in every field, else both sides again.
+#[tactic(auto, using(crate::proofs::Equal::agree, crate::proofs::Equal::differ))]
 pub fn match_sides(giver: GiverSide, taker: TakerSide) -> Result<Matched, Unmatched>
     ensures { pair_terms result ≡ matched giver.terms taker.terms }
 {
     let terms = giver.terms();
-    if !terms.same(&taker.terms()) {
+    if terms != taker.terms() {
         return Err(Unmatched { giver, taker });
     }
     Ok(Matched { terms })

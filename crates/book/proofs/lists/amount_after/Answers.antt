@@ -5,24 +5,24 @@ use Rattle.book.specs.Lists.{run, none}
 use Rattle.book.proofs.Runs.{run_more, amount_low, quantity_low}
 use Rattle.book.proofs.lists.amount_after.Goals as goal
 
-pub loop-i-init : goal.loop-i-init
+pub loop-movement-init : goal.loop-movement-init
 unfolding run
-loop-i-init g c = c.amount_at-amount.ensures
+loop-movement-init g c = c.amount_at-amount.ensures
 
 pub shift-amount-requires : goal.shift-amount-requires
 shift-amount-requires g c =
     let m = g.B.Book.meaning c.args.book.now in
-    let vs = c.args.moves.now in
-    let k = c.args.k in (
-      omega (arith, c.loop-i.invariant, amount_low m vs c.loop-i.i k c.requires.0 c.requires.1 (omega arith) (g.B.Book.lawful c.args.book.now) c.args.account c.args.resource),
-      quantity_low m vs c.loop-i.i k c.requires.0 c.requires.1 (omega arith),
+    let vs = c.args.made.now in
+    let i = c.loop-movement.movement-index in (
+      omega (arith, c.loop-movement.invariant, amount_low m vs c.requires i (g.met.B.Book.lawful c.args.book.now) c.args.account c.args.resource),
+      quantity_low m vs c.requires i (omega arith),
     )
 
-pub loop-i-preserved : goal.loop-i-preserved
-loop-i-preserved g c =
+pub loop-movement-preserved : goal.loop-movement-preserved
+loop-movement-preserved g c =
     let m = g.B.Book.meaning c.args.book.now in
-    let vs = c.args.moves.now in
-    let i = c.loop-i.i in
+    let vs = c.args.made.now in
+    let i = c.loop-movement.movement-index in
     c.shift-amount.ensures
-    ∙ ap (shifted (get_or vs i none) c.args.account c.args.resource) c.loop-i.invariant
+    ∙ ap (shifted (get_or vs i none) c.args.account c.args.resource) c.loop-movement.invariant
     ∙ sym (ap (λ (n : Meaning). n.amount c.args.account c.args.resource) (run_more m vs i (omega arith)))

@@ -10,12 +10,12 @@ pub returns : goal.returns
 returns g c =
     let m = g.B.Book.meaning c.args.book.now in
     let vs = c.args.moves.now in
-    let n = g.B.Book.meaning c.loop-i.book in
+    let n = g.B.Book.meaning c.loop-movement.book in
     let ok : Ok tt ≡ rehearsed m vs = c.in_ok-rehearse.ensures in
-    let is : n ≡ run m vs = sym (run_all n vs c.loop-i.i (omega arith)) ∙ c.loop-i.invariant.0 in
+    let is : n ≡ run m vs = sym (run_all n vs c.loop-movement.movement-index (omega arith)) ∙ c.loop-movement.invariant.0 in
     record {
       answer = ok;
       change = is ∙ ap (λ a. cond (is_ok a) (run m vs) m) ok;
       conserved = subst (λ (k : Meaning). Conserved m k (length vs)) (sym is) (conserved_run 0 m vs ok);
-      stays = c.loop-i.invariant.2;
+      stays = c.loop-movement.invariant.2;
     }

@@ -1,14 +1,13 @@
-use Rattle.std.proofs.Common.{sym, ◌∙◌, arith}
-use Rattle.books.proofs.Held.{held_here, held_later, held_all}
+use Rattle.std.proofs.Common.{rules}
+use borrow.Author.Tests.{tests}
+use Rattle.std.proofs.lemmas.Iterator.{YieldsList-from_slice}
+use Rattle.std.proofs.lemmas.Iterator.Search.{find_from_yields_List}
+use Rattle.books.specs.Rows.{named}
+use Rattle.books.proofs.Held.{held_found}
 use Rattle.books.proofs.row.held_in.Goals as goal
 
-pub returns-then-names : goal.returns-then-names
-returns-then-names c =
-    sym (held_here c.args.rows.now c.loop-i.i c.args.account c.args.resource (omega arith) (sym c.names.ensures ∙ c.if-names.true)) ∙ c.loop-i.invariant
-
-pub loop-i-preserved : goal.loop-i-preserved
-loop-i-preserved c =
-    sym (held_later c.args.rows.now c.loop-i.i c.args.account c.args.resource (omega arith) (sym c.names.ensures ∙ c.if-names.false)) ∙ c.loop-i.invariant
-
 pub returns : goal.returns
-returns c = sym (held_all c.args.rows.now c.loop-i.i c.args.account c.args.resource (omega arith)) ∙ c.loop-i.invariant
+returns c =
+    let a = c.args in
+    let first = find_from_yields_List (named a.account a.resource) _ _ c.find.result c.find.ensures.ran (YieldsList-from_slice a.rows.now cc) (λ x b q k. search (rules, tests)) in
+    rw (held_found a.rows.now a.account a.resource, ← first) (search rules)

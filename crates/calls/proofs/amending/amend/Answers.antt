@@ -1,17 +1,21 @@
-use Rattle.std.proofs.Common.{sym, ◌∙◌}
+use Rattle.std.proofs.Common.{sym, ap, ◌∙◌}
+use Rattle.std.specs.Result.{result_err}
+use Rattle.memory.specs.Places.{place_of, deal_numbers}
 use Rattle.law.specs.World.{World}
 use Rattle.calls.specs.Clauses.{lent}
 use Rattle.calls.proofs.Amends.{amend_broken, amend_told}
 use Rattle.calls.proofs.amending.amend.Goals as goal
 
-pub returns-in-Some : goal.returns-in-Some
-returns-in-Some g c =
+pub returns-in_err-checked : goal.returns-in_err-checked
+returns-in_err-checked g c =
     let w : World = lent c.args.head.now c.args.deals.now c.args.lines.now (g.B.Book.meaning c.args.book.now) in
-    let k = amend_broken w c.args.number c.args.rate c.args.due c.accounts.result c.resources.result c.accounts.ensures c.resources.ensures c.in-Some.broken (sym c.in-Some.is ∙ c.fault.ensures.answer) in
+    let k = amend_broken w c.args.number c.args.rate c.args.due c.accounts.result c.resources.result c.accounts.ensures c.resources.ensures c.in_err-checked.field-0.0 (ap result_err (sym c.in_err-checked.was) ∙ c.check.ensures.answer) c.from_residual.result c.from_residual.ensures.1 in
     record { answer = k.answer; world = k.world; law = k.law }
 
 pub returns : goal.returns
 returns g c =
     let w : World = lent c.args.head.now c.args.deals.now c.args.lines.now (g.B.Book.meaning c.args.book.now) in
-    let k = amend_told w c.args.number c.args.rate c.args.due c.accounts.result c.resources.result c.accounts.ensures c.resources.ensures (sym c.in_default.is ∙ c.fault.ensures.answer) c.amend_sound.result c.amend_sound.ensures.answer c.amend_sound.new.deals c.amend_sound.ensures.deals in
+    let at = c.find_deal-row.ensures.place ∙ ap (λ r. place_of c.args.number (deal_numbers r.head.now r.deals.now)) c.in_ok-checked.ensures.parts.0 in
+    let k = amend_told w c.args.number c.args.rate c.args.due c.accounts.result c.resources.result c.accounts.ensures c.resources.ensures (ap result_err (sym c.in_ok-checked.was) ∙ c.check.ensures.answer) c.find_deal-row.result at
+    c.amend_found.result c.amend_found.ensures.answer c.amend_found.new.deals c.amend_found.ensures.deals in
     record { answer = k.answer; world = k.world; law = k.law }

@@ -1,7 +1,10 @@
-use Rattle.std.proofs.Common.{arith}
+use Rattle.std.proofs.Common.{set, ap, ◌∙◌, arith}
+use Rattle.std.proofs.lemmas.List.{get_or_default}
+use Rattle.std.proofs.lemmas.List.Edits.{map_over_more}
 use Rattle.memory.specs.Deals.{grown}
-use Rattle.calls.proofs.Growing.{grow_more}
 use Rattle.calls.proofs.growth.accrue_all.Goals as goal
 
-pub loop-row-preserved : goal.loop-row-preserved
-loop-row-preserved c = grow_more (grown c.args.days) c.args.deals.now c.loop-row.deals c.loop-row.row c.accrue.new.self _ (omega arith) c.loop-row.invariant c.accrue.ensures.change
+pub loop-deal-preserved : goal.loop-deal-preserved
+loop-deal-preserved c =
+    ap (set c.loop-deal.deals c.loop-deal.deal-index) c.accrue.ensures.change
+    ∙ map_over_more (grown c.args.days) c.args.deals.now c.loop-deal.deals c.loop-deal.deal-index _ (omega arith) c.loop-deal.invariant (get_or_default c.loop-deal.deals c.loop-deal.deal-index _ _ (omega (arith, c.loop-deal.auto.deals)))

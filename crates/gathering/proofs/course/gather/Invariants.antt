@@ -5,5 +5,5 @@ use Rattle.gathering.proofs.course.gather.Given as goal
 
 abbrev pub invariant-loop-place : goal.invariant-loop-place
 invariant-loop-place g l =
-    completed (g.B.Book.meaning l.book) (g.V.Valuation.worth l.valuation) l.prices l.order l.held l.place l.need (picks_of l.basket)
-    ≡ completed (g.B.Book.meaning l.book) (g.V.Valuation.worth l.valuation) l.prices l.order l.held 0 l.order.need []
+    let done = completed (g.B.Book.meaning l.fn.book) (g.V.Valuation.worth l.fn.valuation) l.prices l.fn.order l.fn.held in
+    done l.place l.need (picks_of l.basket) ≡ done 0 l.fn.order.need []

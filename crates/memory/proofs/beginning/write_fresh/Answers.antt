@@ -11,13 +11,15 @@ pub returns : goal.returns
 returns c =
     let d = length c.args.deals.now in
     let l = length c.args.lines.now in
+    let deals = c.clear.ensures.deals in
+    let lines = c.clear.ensures.lines in
     record {
       head = c.requires.0;
-      deals = c.clear.ensures;
-      lines = c.clear-2.ensures;
+      deals = deals;
+      lines = lines;
       sound =
-          subst (λ (h : Head). Faultless h c.clear.new.rows c.clear-2.new.rows) (sym c.requires.0)
-          (subst (λ (ds : List Deal). Faultless (fresh_head c.args.date) ds c.clear-2.new.rows) (sym c.clear.ensures)
-          (subst (λ (ls : List Line). Faultless (fresh_head c.args.date) (replicate d no_deal) ls) (sym c.clear-2.ensures)
+          subst (λ (h : Head). Faultless h c.clear.new.deals c.clear.new.lines) (sym c.requires.0)
+          (subst (λ (ds : List Deal). Faultless (fresh_head c.args.date) ds c.clear.new.lines) (sym deals)
+          (subst (λ (ls : List Line). Faultless (fresh_head c.args.date) (replicate d no_deal) ls) (sym lines)
           (fresh_faultless c.args.date d l c.requires.1.0 c.requires.1.1)));
     }

@@ -1,35 +1,22 @@
-use Rattle.std.proofs.Common.{sym, ◌∙◌, arith}
-use Rattle.std.proofs.lemmas.List.{length-map}
-use Rattle.std.proofs.lemmas.Bool.{eqb-true, eqb-false}
-use Rattle.memory.proofs.Halves.{place_absent, sought_start, sought_found, sought_none, key_read}
+use Rattle.std.proofs.Common.{◌≡◌, List, map, take, min, length, sym, ap, ◌∙◌, subst, rules}
+use Rattle.std.proofs.lemmas.List.Sorted.{answers_always}
+use Rattle.memory.specs.Places.{Rising, place_of}
+use Rattle.memory.proofs.Halves.{searched_in, searched_place, take_min, found_used}
 use Rattle.memory.proofs.finding.find.Goals as goal
 
-pub returns-then-is_empty : goal.returns-then-is_empty
-returns-then-is_empty g c =
-    let long = length-map c.args.rows.now g.K.Keyed.key in
-    let none = eqb-true _ _ (sym c.if-is_empty.ensures) in
-    record { found = tt; place = λ up. sym (place_absent _ _ (λ j l at. omega arith)) }
-
-pub loop-span-init : goal.loop-span-init
-loop-span-init g c =
-    let none = eqb-false _ _ (sym c.if-is_empty.ensures) in
-    sought_start _ _ _ (length-map c.args.rows.now g.K.Keyed.key) (omega arith)
-
-pub returns-then-key-number : goal.returns-then-key-number
-returns-then-key-number g c =
+pub returns : goal.returns
+returns g c =
+    let key = g.R.Row.key in
     let rows = c.args.rows.now in
-    let read = key_read g.K.Keyed.key rows c.loop-span.span.low _ c.key.result (omega arith) c.index-rows-span.is c.key.ensures in
-    let is = read ∙ c.if-key-number.true in
+    let used = g.R.Row.used c.args.head.now in
+    let front = take c.min-count.result rows in
+    let is : front ≡ take used rows = (λ i. take ((c.min-count.ensures ∙ ap (min (length rows)) c.used.ensures) i) rows) ∙ take_min rows used in
+    let bound = c.binary_search_by_key.ensures.bound in
+    let position = c.binary_search_by_key.ensures.position key (answers_always _ _ _ (λ f a r h called. search rules)) in
     record {
-      found = (omega arith, is);
-      place = λ up. sought_found _ _ _ _ _ c.loop-span-test.false c.loop-span.invariant (length-map rows g.K.Keyed.key) up is;
-    }
-
-pub returns-else-key-number : goal.returns-else-key-number
-returns-else-key-number g c =
-    let rows = c.args.rows.now in
-    let read = key_read g.K.Keyed.key rows c.loop-span.span.low _ c.key.result (omega arith) c.index-rows-span.is c.key.ensures in
-    record {
-      found = tt;
-      place = λ up. sought_none _ _ _ _ _ c.loop-span-test.false c.loop-span.invariant (length-map rows g.K.Keyed.key) up (λ at. c.if-key-number.false (sym read ∙ at));
+      found = rw c.ok.ensures.value (found_used rows key front used c.args.number _ is (searched_in key front c.args.number _ bound position));
+      place = λ up.
+          c.ok.ensures.value
+          ∙ searched_place key front c.args.number _ bound position (subst (λ (xs : List g.row.R.Denot). Rising (map key xs)) (sym is) up)
+          ∙ ap (λ (xs : List g.row.R.Denot). place_of c.args.number (map key xs)) is;
     }

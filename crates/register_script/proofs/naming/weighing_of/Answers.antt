@@ -1,15 +1,11 @@
-use Rattle.std.proofs.Common.{rules}
+use Rattle.std.proofs.Common.{ap, sym, rules}
+use Rattle.std.specs.Prelude.{codes}
+use Rattle.text.proofs.Spelling.{spelled}
 use Rattle.register_script.specs.Naming.{weighing_of}
 use Rattle.register_script.proofs.naming.weighing_of.Goals as goal
 
-pub returns-then-is : goal.returns-then-is
-unfolding weighing_of
-returns-then-is c = search rules
+pub returns-in-margin : goal.returns-in-margin
+returns-in-margin c = sym (ap weighing_of (spelled c.args.word.now (codes "margin") (search rules)))
 
-pub returns-then-is-2 : goal.returns-then-is-2
-unfolding weighing_of
-returns-then-is-2 c = search rules
-
-pub returns-else-is-2 : goal.returns-else-is-2
-unfolding weighing_of
-returns-else-is-2 c = search rules
+pub returns-in-haircut : goal.returns-in-haircut
+returns-in-haircut c = sym (ap weighing_of (spelled c.args.word.now (codes "haircut") (search rules)))

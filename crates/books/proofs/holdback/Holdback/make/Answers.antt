@@ -9,7 +9,7 @@ pub returns : goal.returns
 returns g c =
     let s = c.args.self.now in
     let m = g.B.Book.meaning s.below in
-    let ok = layered_accepts m s.rows c.args.movement (g.B.Book.lawful s.below) c.requires in
+    let ok = layered_accepts m s.rows c.args.movement (g.met.B.Book.lawful s.below) c.requires in
     record {
       change = ap (λ (n : Meaning). layered n s.rows) (c.transfer.ensures.change ∙ after_made m c.args.movement ok);
       stays = c.transfer.ensures.stays;

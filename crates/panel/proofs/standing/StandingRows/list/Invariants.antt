@@ -1,0 +1,10 @@
+use Rattle.std.proofs.Common.{◌≡◌, ◌≤◌, length, take}
+use Rattle.memory.specs.Sound.{used_deals, used_lines}
+use Rattle.panel.specs.Standing.{lines_of, listed}
+use Rattle.panel.proofs.standing.StandingRows.list.Given as goal
+
+abbrev pub invariant-loop-line : goal.invariant-loop-line
+invariant-loop-line l =
+    (l.count ≡ length (lines_of l.holder.party l.holder.account (used_deals l.self.register.head.now l.self.register.deals.now) (take l.line-index (used_lines l.self.register.head.now l.self.register.lines.now))))
+    × (l.count ≤ l.line-index)
+    × (l.places ≡ listed (lines_of l.holder.party l.holder.account (used_deals l.self.register.head.now l.self.register.deals.now) (take l.line-index (used_lines l.self.register.head.now l.self.register.lines.now))) l.initial.places)

@@ -1,5 +1,0 @@
-use Rattle.text.proofs.Lines.{Searched}
-use Rattle.text.proofs.script.line_bounds.Given as goal
-
-abbrev pub invariant-loop-i : goal.invariant-loop-i
-invariant-loop-i l = Searched l.text l.i
