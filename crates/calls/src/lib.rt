@@ -1,4 +1,4 @@
-//! The nine calls. Each borrows for writing only the parts of the register that it writes; one value of all three parts
+//! Five of the nine calls. Each borrows for writing only the parts of the register that it writes; one value of all three parts
 //! would ask a caller for more.
 #![tactic(auto)]
 

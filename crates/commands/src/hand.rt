@@ -29,6 +29,7 @@ impl Hand {
         ensures answer { result ≡ side_answer terms }
         ensures change { held self.new ≡ given_after terms (held self.old) }
     {
+        // The same as for the taker but for the party, which its type says.
         self.giver = Some(GiverSide::state(terms)?);
         Ok(())
     }
@@ -60,7 +61,7 @@ impl Hand {
             Err(Unmatched { giver, taker }) => {
                 self.giver = Some(giver);
                 self.taker = Some(taker);
-                Err(Unobeyed::ByRegister(Refusal::SidesDiffer))
+                Err(Refusal::SidesDiffer.into())
             }
         }
     }

@@ -23,7 +23,7 @@ pub(crate) fn quote(prices: &mut [Price], quotation: Quotation) -> Result<(), Un
     let Quotation { security, price } = quotation;
     let place = security.checked_sub(3).ok_or(Refusal::OutOfRange)? as usize;
     if place >= prices.len() || !in_ranges(price) {
-        return Err(Unobeyed::ByRegister(Refusal::OutOfRange));
+        return Err(Refusal::OutOfRange.into());
     }
     // With `get_mut`, what the list becomes stays open.
     prices[place] = price;

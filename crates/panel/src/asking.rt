@@ -3,6 +3,8 @@ ghost use Rattle.std.specs.Prelude.{◌≡◌, IfOk};
 ghost use Rattle.std.specs.Result.{result_err};
 ghost use Rattle.memory.specs.Register.{Told};
 ghost use Rattle.memory.specs.Sound.{fault_of};
+ghost use Rattle.memory.specs.Register.{Told};
+ghost use Rattle.memory.specs.Sound.{fault_of};
 ghost use Rattle.panel.specs.Asking.{refusal_of, position_in, owed_to, open_count, open_listed};
 ghost use Rattle.panel.specs.Standing.{Orderly, Whole};
 
@@ -10,7 +12,7 @@ use crate::party::Holder;
 use crate::refusal::PanelRefusal;
 use crate::standing::StandingRows;
 use book::Book;
-use memory::{Line, Register};
+use memory::{Fault, Line, Register};
 
 /// What stands of a security for an account.
 #[derive(Clone, Copy)]
@@ -21,13 +23,22 @@ pub struct Position {
     pub taken: u64,
 }
 
+/// Whether the register breaks no rule over the book.
+fn check_over<B: Book>(book: &B, register: Register) -> Result<(), Fault>
+    ensures answer { result_err result ≡ fault_of (B.Book.meaning book.now).accounts (B.Book.meaning book.now).resources register.entry.head.now register.entry.deals.now register.entry.lines.now }
+    ensures told { Told (result_err result) (B.Book.meaning book.now).accounts (B.Book.meaning book.now).resources register.entry.head.now register.entry.deals.now register.entry.lines.now }
+{
+    register.check(book.accounts(), book.resources())?;
+    Ok(())
+}
+
 /// Whether the panel answers, where what is asked about is inside the book or not.
 fn check<B: Book>(book: &B, register: Register, inside: bool) -> Result<(), PanelRefusal>
     ensures answer { result_err result ≡ refusal_of (B.Book.meaning book.now) register.entry.head.now register.entry.deals.now register.entry.lines.now inside }
     ensures orderly { IfOk result (λ _. Orderly register.entry.head.now register.entry.deals.now register.entry.lines.now) }
     ensures whole { IfOk result (λ _. Whole (B.Book.meaning book.now).resources register.entry.head.now register.entry.deals.now register.entry.lines.now) }
 {
-    register.check(book.accounts(), book.resources())?;
+    check_over(book, register)?;
     if !inside {
         return Err(PanelRefusal::Outside);
     }
