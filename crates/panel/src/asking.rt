@@ -12,7 +12,7 @@ use crate::party::Holder;
 use crate::refusal::PanelRefusal;
 use crate::standing::StandingRows;
 use book::Book;
-use memory::{Fault, Line, Register};
+use memory::{Checked, Fault, Line, Register};
 
 /// What stands of a security for an account.
 #[derive(Clone, Copy)]
@@ -23,26 +23,31 @@ pub struct Position {
     pub taken: u64,
 }
 
-/// Whether the register breaks no rule over the book.
-fn check_over<B: Book>(book: &B, register: Register) -> Result<(), Fault>
+/// The register as one that breaks no rule over the book, or the first rule that it breaks.
+fn check_over<'a, B: Book>(book: &B, register: Register<'a>) -> Result<Checked<'a>, Fault>
     ensures answer { result_err result ≡ fault_of (B.Book.meaning book.now).accounts (B.Book.meaning book.now).resources register.entry.head.now register.entry.deals.now register.entry.lines.now }
     ensures told { Told (result_err result) (B.Book.meaning book.now).accounts (B.Book.meaning book.now).resources register.entry.head.now register.entry.deals.now register.entry.lines.now }
+    ensures register { IfOk result (λ checked. checked.register ≡ register.entry) }
 {
-    register.check(book.accounts(), book.resources())?;
-    Ok(())
+    register.check(book.accounts(), book.resources())
 }
 
-/// Whether the panel answers, where what is asked about is inside the book or not.
-fn check<B: Book>(book: &B, register: Register, inside: bool) -> Result<(), PanelRefusal>
+/// The register that the panel answers by, where what is asked about is inside the book or not.
+fn check<'a, B: Book>(
+    book: &B,
+    register: Register<'a>,
+    inside: bool,
+) -> Result<Checked<'a>, PanelRefusal>
     ensures answer { result_err result ≡ refusal_of (B.Book.meaning book.now) register.entry.head.now register.entry.deals.now register.entry.lines.now inside }
-    ensures orderly { IfOk result (λ _. Orderly register.entry.head.now register.entry.deals.now register.entry.lines.now) }
+    ensures register { IfOk result (λ checked. checked.register ≡ register.entry) }
+    ensures orderly { IfOk result (λ checked. Orderly checked.register.head.now checked.register.deals.now checked.register.lines.now) }
     ensures whole { IfOk result (λ _. Whole (B.Book.meaning book.now).resources register.entry.head.now register.entry.deals.now register.entry.lines.now) }
 {
-    check_over(book, register)?;
+    let checked = check_over(book, register)?;
     if !inside {
         return Err(PanelRefusal::Outside);
     }
-    Ok(())
+    Ok(checked)
 }
 
 /// What stands of a security for an account. Refused by 1 where the register breaks a rule, and by 41 where the
@@ -56,8 +61,8 @@ pub fn position_of<B: Book>(
     ensures { result ≡ position_in (B.Book.meaning book.now) register.entry.head.now register.entry.deals.now register.entry.lines.now account security }
 {
     let inside = account < book.accounts() && security >= 3 && security < book.resources();
-    check(book, register, inside)?;
-    let rows = StandingRows { register };
+    let checked = check(book, register, inside)?;
+    let rows = StandingRows { checked };
     Ok(Position {
         given: rows.quantity(Holder::giver(account), Some(security)),
         taken: rows.quantity(Holder::taker(account), Some(security)),
@@ -73,8 +78,8 @@ pub fn still_to_come_back<B: Book>(
 ) -> Result<u64, PanelRefusal>
     ensures { result ≡ owed_to (B.Book.meaning book.now) register.entry.head.now register.entry.deals.now register.entry.lines.now account }
 {
-    check(book, register, account < book.accounts())?;
-    let rows = StandingRows { register };
+    let checked = check(book, register, account < book.accounts())?;
+    let rows = StandingRows { checked };
     Ok(rows.quantity(Holder::giver(account), None))
 }
 
@@ -90,7 +95,7 @@ pub fn open_returns<B: Book>(
     ensures answer { result ≡ open_count (B.Book.meaning book.now) register.entry.head.now register.entry.deals.now register.entry.lines.now account }
     ensures places { places.new ≡ open_listed (B.Book.meaning book.now) register.entry.head.now register.entry.deals.now register.entry.lines.now account places.old }
 {
-    check(book, register, account < book.accounts())?;
-    let rows = StandingRows { register };
+    let checked = check(book, register, account < book.accounts())?;
+    let rows = StandingRows { checked };
     Ok(rows.list(Holder::giver(account), places))
 }

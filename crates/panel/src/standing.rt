@@ -4,15 +4,15 @@ ghost use Rattle.memory.specs.Sound.{used_deals, used_lines};
 ghost use Rattle.panel.specs.Standing.{is_party, lines_of, quantity_of, quantity_on, Orderly};
 
 use crate::party::Holder;
-use memory::{Line, Register, find};
+use memory::{Checked, Line};
 
 mod listing;
 
 /// The rows of a register that breaks no rule.
 #[derive(Clone, Copy)]
 pub(crate) struct StandingRows<'a> {
-    pub(crate) register: Register<'a>,
-    ghost orderly: { Orderly register.head.now register.deals.now register.lines.now },
+    pub(crate) checked: Checked<'a>,
+    ghost orderly: { Orderly checked.register.head.now checked.register.deals.now checked.register.lines.now },
 }
 
 fn quantity_of(line: &Line, security: Option<u32>) -> u64
@@ -31,31 +31,31 @@ fn quantity_of(line: &Line, security: Option<u32>) -> u64
 impl StandingRows<'_> {
     /// Whether the standing deal of that number has the holder.
     fn has(&self, holder: Holder, number: u32) -> bool
-        ensures { result ≡ is_party holder.party holder.account number (used_deals self.now.register.head.now self.now.register.deals.now) }
+        ensures { result ≡ is_party holder.party holder.account number (used_deals self.now.checked.register.head.now self.now.checked.register.deals.now) }
     {
-        let Some(row) = find(self.register.head, self.register.deals, number) else {
+        let Some(row) = self.checked.find_deal(number) else {
             return false;
         };
-        holder.party.of(&self.register.deals[row]) == holder.account
+        holder.party.of(&self.checked.register.deals[row]) == holder.account
     }
 
     fn used_lines(&self) -> &[Line]
-        ensures { result.now ≡ used_lines self.now.register.head.now self.now.register.lines.now }
+        ensures { result.now ≡ used_lines self.now.checked.register.head.now self.now.checked.register.lines.now }
     {
-        &self.register.lines[..self.register.head.used.lines as usize]
+        &self.checked.register.lines[..self.checked.register.head.used.lines as usize]
     }
 
     /// What stands for the holder, of a security or, where none is named, of all.
     pub(crate) fn quantity(&self, holder: Holder, security: Option<u32>) -> u64
-        ensures { result ≡ quantity_on security (lines_of holder.party holder.account (used_deals self.now.register.head.now self.now.register.deals.now) (used_lines self.now.register.head.now self.now.register.lines.now)) }
+        ensures { result ≡ quantity_on security (lines_of holder.party holder.account (used_deals self.now.checked.register.head.now self.now.checked.register.deals.now) (used_lines self.now.checked.register.head.now self.now.checked.register.lines.now)) }
     {
         self.counted(holder, security)
     }
 
     /// The same, where it fits.
     fn counted(&self, holder: Holder, security: Option<u32>) -> u64
-        requires { quantity_on security (lines_of holder.party holder.account (used_deals self.now.register.head.now self.now.register.deals.now) (used_lines self.now.register.head.now self.now.register.lines.now)) < 2 ^ 64 }
-        ensures { result ≡ quantity_on security (lines_of holder.party holder.account (used_deals self.now.register.head.now self.now.register.deals.now) (used_lines self.now.register.head.now self.now.register.lines.now)) }
+        requires { quantity_on security (lines_of holder.party holder.account (used_deals self.now.checked.register.head.now self.now.checked.register.deals.now) (used_lines self.now.checked.register.head.now self.now.checked.register.lines.now)) < 2 ^ 64 }
+        ensures { result ≡ quantity_on security (lines_of holder.party holder.account (used_deals self.now.checked.register.head.now self.now.checked.register.deals.now) (used_lines self.now.checked.register.head.now self.now.checked.register.lines.now)) }
     {
         self.used_lines()
             .iter()

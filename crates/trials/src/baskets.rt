@@ -1,5 +1,6 @@
 //! What is gathered, at its edges.
-use books::{Grid, Laid};
+use crate::books_alike::lay;
+use books::Grid;
 use gathering::{Basket, Order, gather};
 use std::process::Abort;
 use std::test::Fail;
@@ -38,7 +39,7 @@ type Case = (
 fn check_cases(rt: &impl Abort, cases: &[Case]) -> Result<(), Fail> {
     for (each, prices, target, need, held, expected) in cases.iter().copied() {
         let mut amounts = [each; 256];
-        let laid = Laid::over(2, 128, &mut amounts[..]).map_err(|_| Fail::new("the amounts"))?;
+        let laid = lay(2, 128, &mut amounts[..])?;
         let order = Order {
             giver: 1,
             currency: Currency::Gbp,

@@ -2,7 +2,7 @@
 use crate::movements::{MOVEMENTS, OPENING};
 use crate::sealed::Sealed;
 use book::{Book, BookRefusal, Movement, RefusedAt, attempt, held_by_all, perform, rehearse};
-use books::{BLANK, Grid, Holdback, Journal, Laid, check as check_memory};
+use books::{Amounts, BLANK, Grid, Holdback, Journal, Laid, check as check_memory};
 use std::process::Abort;
 use std::test::Fail;
 
@@ -15,6 +15,11 @@ fn movement(from: u32, to: u32, resource: u32, quantity: u64) -> Movement {
         resource,
         quantity,
     }
+}
+
+/// Amounts of which a test knows that they fit.
+pub(crate) fn lay<S: Amounts>(accounts: u32, resources: u32, amounts: S) -> Result<Laid<S>, Fail> {
+    Laid::over(accounts, resources, amounts).map_err(|_| Fail::new("the amounts"))
 }
 
 /// Whether two books answer alike to every question.
@@ -77,8 +82,8 @@ fn grid_and_journal_are_one(rt: HostRuntime) -> Result<(), Fail> {
     let opening = OPENING;
     let mut amounts = OPENING;
     let mut postings = [BLANK; 130];
-    let opening = Laid::over(5, 7, &opening[..]).map_err(|_| Fail::new("the opening amounts"))?;
-    let amounts = Laid::over(5, 7, &mut amounts[..]).map_err(|_| Fail::new("the amounts"))?;
+    let opening = lay(5, 7, &opening[..])?;
+    let amounts = lay(5, 7, &mut amounts[..])?;
     let mut grid = Grid::over(amounts, 130);
     let mut journal = Journal::over(opening, &mut postings);
     assert!(rt; alike(&grid, &journal));
@@ -94,8 +99,8 @@ fn layers_over_them_are_one(rt: HostRuntime) -> Result<(), Fail> {
     let opening = OPENING;
     let mut amounts = OPENING;
     let mut postings = [BLANK; 130];
-    let opening = Laid::over(5, 7, &opening[..]).map_err(|_| Fail::new("the opening amounts"))?;
-    let amounts = Laid::over(5, 7, &mut amounts[..]).map_err(|_| Fail::new("the amounts"))?;
+    let opening = lay(5, 7, &opening[..])?;
+    let amounts = lay(5, 7, &mut amounts[..])?;
     let grid = Grid::over(amounts, 130);
     let journal = Journal::over(opening, &mut postings);
     let answers = run_layers(&rt, grid, journal);
@@ -151,8 +156,8 @@ fn movements_at_their_edges(rt: HostRuntime) -> Result<(), Fail> {
     let opening = [0, 0, 0, 6, 0, 0, 0, LIMIT - 4];
     let mut amounts = opening;
     let mut postings = [BLANK; 2];
-    let first = Laid::over(2, 4, &opening[..]).map_err(|_| Fail::new("the opening amounts"))?;
-    let laid = Laid::over(2, 4, &mut amounts[..]).map_err(|_| Fail::new("the amounts"))?;
+    let first = lay(2, 4, &opening[..])?;
+    let laid = lay(2, 4, &mut amounts[..])?;
     edges(&rt, &mut Grid::over(laid, 2));
     edges(&rt, &mut Journal::over(first, &mut postings));
     assert_eq!(rt; amounts, [0, 0, 0, 3, 0, 0, 0, LIMIT - 1]);
@@ -192,7 +197,7 @@ fn rows<X: Book + Drop>(rt: &impl Abort, below: X) {
 fn rows_at_their_edges(rt: HostRuntime) -> Result<(), Fail> {
     let mut amounts = [0; 40];
     amounts[3] = 6;
-    let laid = Laid::over(2, 20, &mut amounts[..]).map_err(|_| Fail::new("the amounts"))?;
+    let laid = lay(2, 20, &mut amounts[..])?;
     rows(&rt, Grid::over(laid, 9));
     Ok(())
 }
@@ -231,7 +236,7 @@ fn lists<X: Book>(rt: &impl Abort, book: &mut X) {
 fn lists_as_a_whole(rt: HostRuntime) -> Result<(), Fail> {
     let mut amounts = [0; 12];
     amounts[3] = 10;
-    let laid = Laid::over(3, 4, &mut amounts[..]).map_err(|_| Fail::new("the amounts"))?;
+    let laid = lay(3, 4, &mut amounts[..])?;
     lists(&rt, &mut Grid::over(laid, 3));
     Ok(())
 }
@@ -254,7 +259,7 @@ fn sealed<X: Book + Drop>(rt: &impl Abort, below: X) {
 fn a_sealed_book_takes_nothing(rt: HostRuntime) -> Result<(), Fail> {
     let mut amounts = [0; 12];
     amounts[3] = 10;
-    let laid = Laid::over(3, 4, &mut amounts[..]).map_err(|_| Fail::new("the amounts"))?;
+    let laid = lay(3, 4, &mut amounts[..])?;
     sealed(&rt, Grid::over(laid, 3));
     Ok(())
 }

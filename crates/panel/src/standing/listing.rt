@@ -21,8 +21,8 @@ fn put(places: &mut [Line], place: usize, line: Line)
 impl StandingRows<'_> {
     /// Lists the lines of deals that have the holder, as many as there is room for; how many there are.
     pub(crate) fn list(&self, holder: Holder, places: &mut [Line]) -> usize
-        ensures count { result ≡ length (lines_of holder.party holder.account (used_deals self.now.register.head.now self.now.register.deals.now) (used_lines self.now.register.head.now self.now.register.lines.now)) }
-        ensures places { places.new ≡ listed (lines_of holder.party holder.account (used_deals self.now.register.head.now self.now.register.deals.now) (used_lines self.now.register.head.now self.now.register.lines.now)) places.old }
+        ensures count { result ≡ length (lines_of holder.party holder.account (used_deals self.now.checked.register.head.now self.now.checked.register.deals.now) (used_lines self.now.checked.register.head.now self.now.checked.register.lines.now)) }
+        ensures places { places.new ≡ listed (lines_of holder.party holder.account (used_deals self.now.checked.register.head.now self.now.checked.register.deals.now) (used_lines self.now.checked.register.head.now self.now.checked.register.lines.now)) places.old }
     {
         let mut count = 0;
         for line in self.used_lines() {

@@ -9,8 +9,8 @@ use Rattle.panel.proofs.standing.StandingRows.list.Goals.{then-has, else-has}
 pub loop-line-preserved : goal.loop-line-preserved
 loop-line-preserved c =
     let s = c.args.self.now in
-    let ds = used_deals s.register.head.now s.register.deals.now in
-    let ls = used_lines s.register.head.now s.register.lines.now in
+    let ds = used_deals s.checked.register.head.now s.checked.register.deals.now in
+    let ls = used_lines s.checked.register.head.now s.checked.register.lines.now in
     let i = c.loop-line.line-index in
     let in' : i < length ls = omega (arith, c.loop-line-test.true, ap length c.used_lines-line-items.ensures) in
     let inv = c.loop-line.invariant in

@@ -5,6 +5,6 @@ use Rattle.panel.proofs.standing.StandingRows.list.Given as goal
 
 abbrev pub invariant-loop-line : goal.invariant-loop-line
 invariant-loop-line l =
-    (l.count ≡ length (lines_of l.holder.party l.holder.account (used_deals l.self.register.head.now l.self.register.deals.now) (take l.line-index (used_lines l.self.register.head.now l.self.register.lines.now))))
+    (l.count ≡ length (lines_of l.holder.party l.holder.account (used_deals l.self.checked.register.head.now l.self.checked.register.deals.now) (take l.line-index (used_lines l.self.checked.register.head.now l.self.checked.register.lines.now))))
     × (l.count ≤ l.line-index)
-    × (l.places ≡ listed (lines_of l.holder.party l.holder.account (used_deals l.self.register.head.now l.self.register.deals.now) (take l.line-index (used_lines l.self.register.head.now l.self.register.lines.now))) l.initial.places)
+    × (l.places ≡ listed (lines_of l.holder.party l.holder.account (used_deals l.self.checked.register.head.now l.self.checked.register.deals.now) (take l.line-index (used_lines l.self.checked.register.head.now l.self.checked.register.lines.now))) l.initial.places)
