@@ -7,8 +7,8 @@ use Rattle.books.specs.Laying.{opened, amounts_after}
 
 -- the book over what lies in the lent memory now
 abbrev pub grid_meaning : Grid → Meaning
-grid_meaning g = opened g.laid.accounts g.laid.resources g.left g.laid.amounts.now
+grid_meaning g = opened g.accounts g.resources g.left g.amounts.now
 
 -- the lent memory after a movement
 abbrev pub grid_memory : Grid → Movement → List ℕ
-grid_memory g v = amounts_after g.laid.accounts g.laid.resources g.left v g.laid.amounts.now
+grid_memory g v = amounts_after g.accounts g.resources g.left v g.amounts.now

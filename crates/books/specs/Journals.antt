@@ -12,11 +12,11 @@ abbrev pub made : Journal → List Posting
 made j = take j.used j.postings.now
 
 abbrev pub journal_meaning : Journal → Meaning
-journal_meaning j = journalled j.opening.accounts j.opening.resources (length j.postings.now - j.used) j.opening.amounts.now (made j)
+journal_meaning j = journalled j.accounts j.resources (length j.postings.now - j.used) j.opening.now (made j)
 
 -- the amount of an account in a resource, 0 outside
 abbrev pub journal_amount : Journal → ℕ → ℕ → ℕ
-journal_amount j = standing j.opening.accounts j.opening.resources j.opening.amounts.now (made j)
+journal_amount j = standing j.accounts j.resources j.opening.now (made j)
 
 -- the posting that a movement is written as
 abbrev pub posting_of : Journal → Movement → Posting

@@ -1,5 +1,6 @@
 //! A book that writes each movement as a posting into memory that the host lends.
 ghost use Rattle.std.specs.Prelude.{◌≡◌, ℕ, ◌<◌, ◌≤◌, length, slice_index_or};
+ghost use Rattle.books.specs.Laying.{Fit};
 ghost use Rattle.books.specs.Postings.{blank, Sound};
 
 use crate::laid::Laid;
@@ -7,14 +8,20 @@ use crate::posting::{Posting, newest};
 use book::{Book, BookRefusal, Movement, Standing};
 
 /// Opening amounts, and the postings that were made since.
+///
+/// The opening amounts stand in fields of their own: beside lent postings, a field whose type has a ghost field would
+/// keep a journal from being the type that another type is named with, as that of the layer over it.
 #[derive(Drop)]
 pub struct Journal<'a> {
-    opening: Laid<&'a [u64]>,
+    accounts: u32,
+    resources: u32,
+    opening: &'a [u64],
     // The postings are memory that the host lends, of a length of its own.
     used: usize,
     postings: &'a mut [Posting],
+    ghost fit: { Fit accounts resources opening.now },
     ghost room: { used ≤ length postings.now },
-    ghost sound: { (k : ℕ) → k < used → Sound opening.accounts opening.resources (slice_index_or postings.now k blank) },
+    ghost sound: { (k : ℕ) → k < used → Sound accounts resources (slice_index_or postings.now k blank) },
 }
 
 impl<'a> Journal<'a> {
@@ -29,10 +36,30 @@ impl<'a> Journal<'a> {
         ensures meaning { journal_meaning result ≡ opened opening.entry.accounts opening.entry.resources (length postings.old) opening.entry.amounts.now }
         ensures home { result.postings.ghost_name ≡ postings.entry.ghost_name }
     {
+        let Laid {
+            accounts,
+            resources,
+            amounts,
+        } = opening;
         Journal {
-            opening,
+            accounts,
+            resources,
+            opening: amounts,
             used: 0,
             postings,
+        }
+    }
+
+    /// The opening amounts as they are laid.
+    fn laid(&self) -> Laid<&[u64]>
+        ensures accounts { result.accounts ≡ self.now.accounts }
+        ensures resources { result.resources ≡ self.now.resources }
+        ensures amounts { result.amounts.now ≡ self.now.opening.now }
+    {
+        Laid {
+            accounts: self.accounts,
+            resources: self.resources,
+            amounts: self.opening,
         }
     }
 
@@ -54,7 +81,7 @@ impl<'a> Journal<'a> {
     fn standing(&self, account: u32, resource: u32) -> u64
         ensures { result ≡ journal_amount self.now account resource }
     {
-        let opening = self.opening.cell(account, resource);
+        let opening = self.laid().cell(account, resource);
         self.posted(account, resource).unwrap_or(opening)
     }
 
@@ -89,23 +116,23 @@ impl<'a> Book for Journal<'a> {
 
     ghost home = { λ j. j.postings.ghost_name ∷ [] };
 
-    ghost lawful = { λ j. journalled_lawful j.opening.accounts j.opening.resources (length j.postings.now - j.used) j.used j.opening.amounts.now j.postings.now j.opening.fit j.room j.sound };
+    ghost lawful = { λ j. journalled_lawful j.accounts j.resources (length j.postings.now - j.used) j.used j.opening.now j.postings.now j.fit j.room j.sound };
 
     fn accounts(&self) -> u32 {
-        self.opening.accounts
+        self.accounts
     }
 
     fn resources(&self) -> u32 {
-        self.opening.resources
+        self.resources
     }
 
     fn amount(&self, account: u32, resource: u32) -> Option<u64> {
-        let opening = self.opening.get(account, resource)?;
+        let opening = self.laid().get(account, resource)?;
         Some(self.posted(account, resource).unwrap_or(opening))
     }
 
     fn holdback(&self, account: u32, resource: u32) -> Option<u64> {
-        self.opening.has(account, resource).then_some(0)
+        self.laid().has(account, resource).then_some(0)
     }
 
     fn movements_left(&self) -> u64 {
@@ -121,8 +148,8 @@ impl<'a> Book for Journal<'a> {
         let had = self.standing(movement.from, movement.resource);
         let has = self.standing(movement.to, movement.resource);
         let standing = Standing {
-            accounts: self.opening.accounts,
-            resources: self.opening.resources,
+            accounts: self.accounts,
+            resources: self.resources,
             had,
             held: 0,
             has,

@@ -1,6 +1,5 @@
 //! Amounts that lie in memory row by row, at account × resources + resource.
-ghost use Rattle.std.specs.Prelude.{◌≡◌, ℕ, ◌+◌, ◌*◌, ◌<◌, ◌≤◌, List, IfOk, slice_set};
-ghost use Rattle.book.specs.Meaning.{limit};
+ghost use Rattle.std.specs.Prelude.{◌≡◌, ℕ, List, IfOk};
 ghost use Rattle.books.specs.Laying.{Fit, inside, seen_in, cell, checked, outcome};
 
 use crate::laying::check;
@@ -35,7 +34,7 @@ impl<'a> Amounts for &'a mut [u64] {
 pub struct Laid<S: Amounts> {
     pub(crate) accounts: u32,
     pub(crate) resources: u32,
-    amounts: S,
+    pub(crate) amounts: S,
     ghost fit: { Fit accounts resources (S.listed amounts) },
 }
 
@@ -76,19 +75,5 @@ impl<S: Amounts> Laid<S> {
         ensures { result ≡ cell self.now.accounts self.now.resources (S.listed self.now.amounts) account resource }
     {
         self.get(account, resource).unwrap_or(0)
-    }
-}
-
-impl<'a> Laid<&'a mut [u64]> {
-    /// Writes the amount of an account in a resource.
-    pub(crate) fn set(&mut self, account: u32, resource: u32, amount: u64)
-        requires { (account < self.old.accounts) × (resource < self.old.resources) × (amount ≤ limit) }
-        ensures accounts { self.new.accounts ≡ self.old.accounts }
-        ensures resources { self.new.resources ≡ self.old.resources }
-        ensures amounts { self.new.amounts.now ≡ slice_set self.old.amounts.now (account * self.old.resources + resource) amount }
-        ensures stays { self.new.amounts.ghost_name ≡ self.old.amounts.ghost_name }
-    {
-        let place = (account * self.resources + resource) as usize;
-        self.amounts[place] = amount;
     }
 }

@@ -1,9 +1,11 @@
-//! Tests by table over the whole library, and the smallest book of one's own.
+//! Tests by table over the whole library, the smallest book of one's own, and a host over its own memory.
 #![tactic(auto)]
 
+mod lending;
 mod movements;
 mod sealed;
 
+pub use lending::{left_of_layer_over_journal, moved_in_place};
 pub use sealed::Sealed;
 
 #[cfg(test)]

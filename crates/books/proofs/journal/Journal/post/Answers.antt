@@ -17,9 +17,9 @@ invariant_of-self c =
     let p : Posting = record { from = v.from; to = v.to; resource = v.resource; sender = c.args.sender; receiver = c.args.receiver } in
     let one : 0 < n = (allowed (journal_meaning j) v c.requires.accepted).one_left in
     let room : j.used + 1 ≤ length (set ps j.used p) = simp length-set (omega arith) in
-    let lawful = journalled_lawful j.opening.accounts j.opening.resources n j.used j.opening.amounts.now ps j.opening.fit j.room j.sound in
-    let sound = new_sound j.opening.accounts j.opening.resources n j.opening.amounts.now (take j.used ps) v c.requires.accepted c.args.sender c.args.receiver lawful c.requires.sender c.requires.receiver in
-    record { room = room; sound = sound_more j.opening.accounts j.opening.resources ps j.used p (omega arith) j.sound sound }
+    let lawful = journalled_lawful j.accounts j.resources n j.used j.opening.now ps j.fit j.room j.sound in
+    let sound = new_sound j.accounts j.resources n j.opening.now (take j.used ps) v c.requires.accepted c.args.sender c.args.receiver lawful c.requires.sender c.requires.receiver in
+    record { fit = j.fit; room = room; sound = sound_more j.accounts j.resources ps j.used p (omega arith) j.sound sound }
 
 pub returns : goal.returns
 returns c =
@@ -32,8 +32,8 @@ returns c =
     let left : length (set ps j.used p) - (j.used + 1) ≡ n - 1 = simp length-set (omega arith) in
     record {
       change =
-          (λ i. journalled j.opening.accounts j.opening.resources (left i) j.opening.amounts.now (take_more_set ps j.used p (omega arith) i))
-          ∙ journalled_moved j.opening.accounts j.opening.resources n j.opening.amounts.now (take j.used ps) v c.requires.accepted c.args.sender c.args.receiver c.requires.sender c.requires.receiver;
+          (λ i. journalled j.accounts j.resources (left i) j.opening.now (take_more_set ps j.used p (omega arith) i))
+          ∙ journalled_moved j.accounts j.resources n j.opening.now (take j.used ps) v c.requires.accepted c.args.sender c.args.receiver c.requires.sender c.requires.receiver;
       memory = λ i. set ps j.used (record { from = v.from; to = v.to; resource = v.resource; sender = c.requires.sender i; receiver = c.requires.receiver i });
       stays = refl;
     }
