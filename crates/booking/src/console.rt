@@ -24,14 +24,31 @@ pub trait Console {
         command: Self::Command,
     ) -> io::Result<bool>;
 
-    /// Carries out a command on the book, and writes what came of it. Whether it was understood, and, where it carried
-    /// out the rest of the script, whether each line of that was.
+    /// Carries out a command on the book, and writes what came of it; whether it was understood.
     fn obey<B: Book, W: Write>(
         &self,
         out: &mut W,
-        rest: Script,
         asked: Asked,
         book: &mut Holdback<B>,
         command: Self::Command,
-    ) -> anyhow::Result<ControlFlow<bool, bool>>;
+    ) -> io::Result<bool>;
+
+    /// Whether a command may carry out the rest of the script: it goes to `take_over` then, and to `obey` otherwise.
+    /// The result of `take_over` is large and is cleared at each call, which every line would pay for.
+    fn takes_over(&self, _command: Self::Command) -> bool {
+        false
+    }
+
+    /// Carries out a command on the book, and writes what came of it. Whether it was understood, and, where it carried
+    /// out the rest of the script, whether each line of that was.
+    fn take_over<B: Book, W: Write>(
+        &self,
+        out: &mut W,
+        _rest: Script,
+        asked: Asked,
+        book: &mut Holdback<B>,
+        command: Self::Command,
+    ) -> anyhow::Result<ControlFlow<bool, bool>> {
+        Ok(ControlFlow::Continue(self.obey(out, asked, book, command)?))
+    }
 }

@@ -13,6 +13,8 @@ pub struct Asked<'a> {
 }
 
 /// Writes `N WORD` and that the command is carried out, or how it is refused; it was understood.
+// Inlined, it keeps its callers from it, and each of them copies the large result.
+#[inline(never)]
 pub fn report<W: Write, R: Display + Drop>(
     out: &mut W,
     asked: Asked,

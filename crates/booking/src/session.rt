@@ -53,10 +53,13 @@ fn serve<C: Console, B: Book + Drop, W: Write>(
         understood &= match read_line(line) {
             Ok(None) => true,
             Err(Unread) => report_misplaced(out, asked)?,
-            Ok(Some(command)) => match console.obey(out, script, asked, &mut book, command)? {
-                ControlFlow::Continue(understood) => understood,
-                ControlFlow::Break(rest) => return Ok(understood && rest),
-            },
+            Ok(Some(command)) if console.takes_over(command) => {
+                match console.take_over(out, script, asked, &mut book, command)? {
+                    ControlFlow::Continue(understood) => understood,
+                    ControlFlow::Break(rest) => return Ok(understood && rest),
+                }
+            }
+            Ok(Some(command)) => console.obey(out, asked, &mut book, command)?,
         };
     }
     Ok(understood)

@@ -5,19 +5,19 @@ use books::Holdback;
 use script::{BookChoice, Command};
 use std::io;
 use std::io::Write;
-use std::ops::ControlFlow;
-use text::Script;
 
 pub struct BookConsole;
 
 /// Writes what came of a command; whether it was understood.
+#[inline]
 fn tell<W: Write>(out: &mut W, asked: Asked, answer: Result<(), Unobeyed>) -> io::Result<bool> {
-    let answer = match answer {
-        Ok(()) => Ok(()),
-        Err(Unobeyed::Refused(refusal)) => Err(refusal.number()),
-        Err(Unobeyed::Misplaced) => return report_misplaced(out, asked),
+    // With `?` in each arm, the large result of a write is copied only where the write failed.
+    let understood = match answer {
+        Ok(()) => report(out, asked, Ok::<(), u32>(()))?,
+        Err(Unobeyed::Refused(refusal)) => report(out, asked, Err(refusal.number()))?,
+        Err(Unobeyed::Misplaced) => report_misplaced(out, asked)?,
     };
-    report(out, asked, answer)
+    Ok(understood)
 }
 
 impl Console for BookConsole {
@@ -41,15 +41,16 @@ impl Console for BookConsole {
     fn obey<B: Book, W: Write>(
         &self,
         out: &mut W,
-        _rest: Script,
         asked: Asked,
         book: &mut Holdback<B>,
         command: Command,
-    ) -> anyhow::Result<ControlFlow<bool, bool>> {
-        if let Command::Show = command {
+    ) -> io::Result<bool> {
+        let understood = if let Command::Show = command {
             show_book(out, asked.number, book)?;
-            return Ok(ControlFlow::Continue(true));
-        }
-        Ok(ControlFlow::Continue(tell(out, asked, obey(book, command))?))
+            true
+        } else {
+            tell(out, asked, obey(book, command))?
+        };
+        Ok(understood)
     }
 }

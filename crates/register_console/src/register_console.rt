@@ -28,16 +28,18 @@ fn tell_of_register<B: Book, W: Write>(
     command: Command,
     answer: Result<(), Unobeyed>,
 ) -> io::Result<bool> {
-    match (command, answer) {
+    let understood = match (command, answer) {
         (Command::Book(script::Command::Show), Ok(())) => {
             show_register(out, asked.number, book, register)?;
+            true
         }
         (Command::Register(RegisterCommand::Panel(account)), Ok(())) => {
             show_panel(out, asked.number, book, register, account)?;
+            true
         }
-        _ => return tell(out, asked, answer),
-    }
-    Ok(true)
+        _ => tell(out, asked, answer)?,
+    };
+    Ok(understood)
 }
 
 /// Carries out the rest of the script on a register over the book; whether each line was understood.
@@ -106,18 +108,34 @@ impl Console for RegisterConsole {
     fn obey<B: Book, W: Write>(
         &self,
         out: &mut W,
+        asked: Asked,
+        book: &mut Holdback<B>,
+        command: Command,
+    ) -> io::Result<bool> {
+        let understood = if let Command::Book(script::Command::Show) = command {
+            show_book(out, asked.number, book)?;
+            true
+        } else {
+            tell(out, asked, obey(book, command))?
+        };
+        Ok(understood)
+    }
+
+    fn takes_over(&self, command: Command) -> bool {
+        matches!(command, Command::Begin(_))
+    }
+
+    fn take_over<B: Book, W: Write>(
+        &self,
+        out: &mut W,
         rest: Script,
         asked: Asked,
         book: &mut Holdback<B>,
         command: Command,
     ) -> anyhow::Result<ControlFlow<bool, bool>> {
-        match command {
-            Command::Book(script::Command::Show) => {
-                show_book(out, asked.number, book)?;
-                Ok(ControlFlow::Continue(true))
-            }
-            Command::Begin(sizes) => self.begin(out, rest, asked, book, sizes),
-            _ => Ok(ControlFlow::Continue(tell(out, asked, obey(book, command))?)),
+        if let Command::Begin(sizes) = command {
+            return self.begin(out, rest, asked, book, sizes);
         }
+        Ok(ControlFlow::Continue(self.obey(out, asked, book, command)?))
     }
 }

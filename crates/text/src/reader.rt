@@ -48,6 +48,8 @@ impl<'a> Reader<'a> {
 
     #[tactic(auto, using(crate::proofs::Places::place_within))]
     /// The next word; no bytes where none is left.
+    // Inlined at each field of a command, its searches run out of registers.
+    #[inline(never)]
     pub fn word(&mut self) -> &'a [u8]
         ensures word { result.now ≡ next (left_of self.old) }
         ensures left { left_of self.new ≡ rest (left_of self.old) }

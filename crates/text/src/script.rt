@@ -4,6 +4,8 @@ ghost use Rattle.text.specs.Lines.{newline, line_in, behind_line};
 ghost use Rattle.text.specs.Scripts.{GivesLine, lines_at_most};
 
 /// Where the first newline stands.
+// Inlined, the search counts bytes beside its pointer.
+#[inline(never)]
 fn newline(text: &[u8]) -> Option<usize>
     ensures { result ≡ position newline text.now }
 {
