@@ -30,12 +30,10 @@ impl fmt::Display for RefusalText {
 
 /// Writes what came of a command; whether it was understood.
 pub fn tell<W: Write>(out: &mut W, asked: Asked, answer: Result<(), Unobeyed>) -> io::Result<bool> {
-    // With `?` in each arm, the large result of a write is copied only where the write failed.
-    let understood = match answer {
-        Ok(()) => report(out, asked, Ok::<(), u32>(()))?,
-        Err(Unobeyed::ByBook(refusal)) => report(out, asked, Err(refusal.number()))?,
-        Err(Unobeyed::ByRegister(refusal)) => report(out, asked, Err(RefusalText(refusal)))?,
-        Err(Unobeyed::Misplaced) => report_misplaced(out, asked)?,
-    };
-    Ok(understood)
+    match answer {
+        Ok(()) => report(out, asked, Ok::<(), u32>(())),
+        Err(Unobeyed::ByBook(refusal)) => report(out, asked, Err(refusal.number())),
+        Err(Unobeyed::ByRegister(refusal)) => report(out, asked, Err(RefusalText(refusal))),
+        Err(Unobeyed::Misplaced) => report_misplaced(out, asked),
+    }
 }
